@@ -1,0 +1,46 @@
+-- What a line of the script asks for.
+use mathlib.Core.Bool.{Bool, true, false, cond}
+use mathlib.Core.List.{List, [], _∷_}
+use Prim.Native.Nat.{ℕ, _+_}
+use lib.Chars.{codes}
+use lib.Dec.{eqb}
+use lib.ListN.{length, take, drop}
+use Rattle.std.specs.shelf.Lists.{leading}
+use Rattle.std.specs.shelf.Text.{sameBytes}
+use Rattle.words.specs.Words.{like}
+use Rattle.readback.specs.declared.command.Command.{Command}
+use Rattle.readback.specs.declared.command.Command.the-variants.{Nothing, Clause, Reverse, Wrong}
+use Rattle.readback.specs.declared.command.Mistake.{Mistake}
+use Rattle.readback.specs.declared.command.Mistake.the-variants.{UnknownCommand, TooManyWords}
+
+-- the bytes before the first space
+abbrev pub head : List ℕ → List ℕ
+head line = take (leading (like false) line) line
+
+-- the bytes behind the first space
+abbrev pub rest : List ℕ → List ℕ
+rest line = drop (leading (like false) line + 1) line
+
+pub data Meant : Type 0 where
+  nothing : Meant
+  clause : List ℕ → Meant
+  reverse : Meant
+  wrong : Mistake → Meant
+
+abbrev pub meant : Command → Meant
+meant Nothing = nothing
+meant (Clause text) = clause (text .now)
+meant Reverse = reverse
+meant (Wrong m) = wrong m
+
+-- whether a line is empty or a comment
+abbrev pub passed-over : List ℕ → Bool
+passed-over [] = true
+passed-over (b ∷ bs) = eqb b 35
+
+abbrev pub command : List ℕ → Meant
+command line =
+    cond (passed-over line) nothing (
+    cond (sameBytes (head line) (codes "clause")) (clause (rest line)) (
+    cond (sameBytes (head line) (codes "reverse")) (cond (eqb (length (rest line)) 0) reverse (wrong TooManyWords)) (
+    wrong UnknownCommand)))

@@ -1,0 +1,71 @@
+ghost use mathlib.Core.Path.{_≡_};
+ghost use Rattle.std.specs.shelf.Text.{sameBytes};
+ghost use Rattle.readback.specs.Commands.{command, meant, head, rest, passed-over};
+
+// What a line of the script asks for.
+#[derive(Clone, Copy)]
+pub enum Command<'a> {
+    // an empty line, or a comment
+    Nothing,
+    Clause(&'a [u8]),
+    Reverse,
+    Wrong(Mistake),
+}
+
+// A mistake in the script itself.
+#[derive(Clone, Copy)]
+pub enum Mistake {
+    UnknownCommand,
+    TooManyWords,
+    NoFrame,
+}
+
+// A line's first word, and what stands behind the space after it.
+fn cut(line: &[u8]) -> (&[u8], &[u8])
+    ensures word { λ r. ⌜ now (r .0) ≡ head (now (line .entry)) ⌝ }
+    ensures behind { λ r. ⌜ now (r .1) ≡ rest (now (line .entry)) ⌝ }
+{
+    for (i, b) in line.iter().enumerate() {
+        if *b == b' ' {
+            return (&line[0..i], &line[i + 1..]);
+        }
+    }
+    (line, &line[line.len()..])
+}
+
+fn is(word: &[u8], name: &str) -> bool
+    ensures { λ r. ⌜ r ≡ sameBytes (now (word .entry)) (now (name .entry)) ⌝ }
+{
+    word == name.as_bytes()
+}
+
+// Whether a line asks for nothing.
+fn is_passed_over(line: &[u8]) -> bool
+    ensures { λ r. ⌜ r ≡ passed-over (now (line .entry)) ⌝ }
+{
+    match line {
+        [] => true,
+        [b, ..] => *b == b'#',
+    }
+}
+
+// Reads one line of the script.
+pub fn read_command(line: &[u8]) -> Command<'_>
+    ensures { λ r. ⌜ meant r ≡ command (now (line .entry)) ⌝ }
+{
+    if is_passed_over(line) {
+        return Command::Nothing;
+    }
+    let (word, behind) = cut(line);
+    if is(word, "clause") {
+        Command::Clause(behind)
+    } else if is(word, "reverse") {
+        if behind.is_empty() {
+            Command::Reverse
+        } else {
+            Command::Wrong(Mistake::TooManyWords)
+        }
+    } else {
+        Command::Wrong(Mistake::UnknownCommand)
+    }
+}
