@@ -1,0 +1,5 @@
+pub mod Fields
+pub mod Decoded
+pub mod Scans
+pub mod Keys
+pub mod Views
