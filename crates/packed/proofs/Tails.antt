@@ -28,7 +28,7 @@ tail-same r bs e = (0, e)
 tail-trans : (a b c : List ℕ) → Tail a b → Tail b c → Tail a c
 tail-trans a b c p q = (q .0 + p .0, p .1 ∙ ap (drop (p .0)) (q .1) ∙ drop-drop (p .0) (q .0) c)
 
-next-ok : {A B : Type 0} (r : Result A LineFault) (f : A → Result B LineFault) (y : B) → Ok y ≡ next r f → (x : A) × (Ok x ≡ r) × (Ok y ≡ f x)
+pub next-ok : {A B : Type 0} (r : Result A LineFault) (f : A → Result B LineFault) (y : B) → Ok y ≡ next r f → (x : A) × (Ok x ≡ r) × (Ok y ≡ f x)
 next-ok (Ok x) f y e = (x, refl, e)
 next-ok (Err d) f y e = let z : _≡_ {A = ℕ} 0 1 = cc in absurd (omega arith)
 

@@ -24,7 +24,7 @@ one-of s e es n at r l = by-line l
     (λ x. cond (s && not (eqb e at)) (Err (refuse reasons.WrongPlaceEntry n)) (walk-of s es (n + 1) (at + (length r - length (x .1))) (x .1)))
     (λ f. Err (refuse (reason-of f) at))
 
-near : (s : Bool) (e : ℕ) (es : List ℕ) (n at : ℕ) (r : List ℕ) → 0 < length r → at < 4294967296 → walk-of s (e ∷ es) n at r ≡ one-of s e es n at r (line-of r)
+pub near : (s : Bool) (e : ℕ) (es : List ℕ) (n at : ℕ) (r : List ℕ) → 0 < length r → at < 4294967296 → walk-of s (e ∷ es) n at r ≡ one-of s e es n at r (line-of r)
 near s e es n at [] h k = absurd (omega arith)
 near s e es n at (b ∷ bs) h k = rw (lt-ltb at 4294967296 k)
 

@@ -3,3 +3,4 @@ pub mod Decoded
 pub mod Scans
 pub mod Keys
 pub mod Views
+pub mod Spells

@@ -2,6 +2,7 @@ ghost use mathlib.Core.Path.{_≡_};
 ghost use mathlib.Core.Bool.{true, false, cond};
 ghost use Rattle.std.specs.Results.{isOk};
 ghost use Rattle.packed.specs.Scans.{walk-of, scan-of, filled, reason-of, refuse};
+ghost use Rattle.packed.specs.Spells.{Scanned};
 use crate::line::LineFault;
 use crate::line::PackedLine;
 use frame::refusal::Layer;
@@ -71,8 +72,8 @@ fn fill(table: &mut [u32], bytes: &[u8])
     }
 }
 
-// Writes the place of each line into the table, and answers how many there are.
-pub fn scan(table: &mut [u32], bytes: &[u8]) -> Result<u32, Refusal>
+// Writes only once every line, and their count, are known to be good.
+fn scan_places(table: &mut [u32], bytes: &[u8]) -> Result<u32, Refusal>
     ensures answer { λ r. ⌜ r ≡ scan-of (now (table .entry)) (now (bytes .entry)) ⌝ }
     ensures table { λ r. ⌜ now (table .exit) ≡ cond (isOk r) (filled (now (table .entry)) 0 (now (bytes .entry))) (now (table .entry)) ⌝ }
 {
@@ -82,4 +83,14 @@ pub fn scan(table: &mut [u32], bytes: &[u8]) -> Result<u32, Refusal>
     }
     fill(table, bytes);
     Ok(count as u32)
+}
+
+// Writes the place of each line into the table, and answers how many there are.
+// Where it refuses, the table holds what it held.
+pub fn scan(table: &mut [u32], bytes: &[u8]) -> Result<u32, Refusal>
+    ensures answer { λ r. ⌜ r ≡ scan-of (now (table .entry)) (now (bytes .entry)) ⌝ }
+    ensures table { λ r. ⌜ now (table .exit) ≡ cond (isOk r) (filled (now (table .entry)) 0 (now (bytes .entry))) (now (table .entry)) ⌝ }
+    ensures lines { λ r. ⌜ Scanned (now (bytes .entry)) (now (table .entry)) (now (table .exit)) r ⌝ }
+{
+    scan_places(table, bytes)
 }
