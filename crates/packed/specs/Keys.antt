@@ -3,8 +3,8 @@ use Prim.Native.Nat.{ℕ}
 use Rattle.std.specs.Options.{mapped}
 use Rattle.std.specs.declared.option.Option.{Option}
 use Rattle.std.specs.declared.option.Option.the-variants.{Some, None}
-use Rattle.transcript.specs.declared.keys.Elapsed.{Elapsed}
-use Rattle.transcript.specs.declared.keys.Turn.{Turn}
+use Rattle.transcript.specs.declared.keys.elapsed.Elapsed.{Elapsed}
+use Rattle.transcript.specs.declared.keys.turn.Turn.{Turn}
 use Rattle.packed.specs.Fields.{Line}
 
 -- unmarked without the elapsed field

@@ -4,11 +4,11 @@ ghost use Rattle.packed.specs.Decoded.{decoded};
 ghost use Rattle.packed.specs.Fields.{Line};
 ghost use Rattle.packed.specs.Keys.{by-elapsed, by-turn};
 use crate::line::PackedLine;
-use transcript::keys::Elapsed;
-use transcript::keys::ElapsedKind;
 use transcript::keys::KeyKind;
-use transcript::keys::Turn;
-use transcript::keys::TurnKind;
+use transcript::keys::elapsed::Elapsed;
+use transcript::keys::elapsed::ElapsedKind;
+use transcript::keys::turn::Turn;
+use transcript::keys::turn::TurnKind;
 
 // A kind of key that a packed line can hold.
 pub trait PackedKey: KeyKind {

@@ -9,7 +9,7 @@ use Rattle.std.specs.shelf.Lists.{leading}
 use Rattle.std.specs.shelf.Text.{sameBytes}
 use Rattle.words.specs.Words.{like}
 use Rattle.readback.specs.declared.command.Command.{Command}
-use Rattle.readback.specs.declared.command.Command.the-variants.{Nothing, Clause, Reverse, Wrong}
+use Rattle.readback.specs.declared.command.Command.the-variants.{Nothing, Clause, Reverse, Scan, View, Wrong}
 use Rattle.readback.specs.declared.command.Mistake.{Mistake}
 use Rattle.readback.specs.declared.command.Mistake.the-variants.{UnknownCommand, TooManyWords}
 
@@ -25,12 +25,16 @@ pub data Meant : Type 0 where
   nothing : Meant
   clause : List ℕ → Meant
   reverse : Meant
+  scan : List ℕ → Meant
+  view : List ℕ → Meant
   wrong : Mistake → Meant
 
 abbrev pub meant : Command → Meant
 meant Nothing = nothing
 meant (Clause text) = clause (text .now)
 meant Reverse = reverse
+meant (Scan args) = scan (args .now)
+meant (View args) = view (args .now)
 meant (Wrong m) = wrong m
 
 -- whether a line is empty or a comment
@@ -43,4 +47,6 @@ command line =
     cond (passed-over line) nothing (
     cond (sameBytes (head line) (codes "clause")) (clause (rest line)) (
     cond (sameBytes (head line) (codes "reverse")) (cond (eqb (length (rest line)) 0) reverse (wrong TooManyWords)) (
-    wrong UnknownCommand)))
+    cond (sameBytes (head line) (codes "scan")) (scan (rest line)) (
+    cond (sameBytes (head line) (codes "view")) (view (rest line)) (
+    wrong UnknownCommand)))))

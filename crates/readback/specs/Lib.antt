@@ -1,3 +1,4 @@
+pub mod Args
 pub mod Commands
 pub mod Lines
 pub mod Scripts

@@ -8,7 +8,7 @@ use Rattle.std.specs.Written.{decimal}
 use Rattle.std.specs.declared.result.Result.{Result}
 use Rattle.std.specs.declared.result.Result.the-variants.{Ok, Err}
 use Rattle.readback.specs.declared.command.Mistake.{Mistake}
-use Rattle.readback.specs.declared.command.Mistake.the-variants.{UnknownCommand, TooManyWords, NoFrame}
+use Rattle.readback.specs.declared.command.Mistake.the-variants.{UnknownCommand, TooManyWords, MissingWord, BadNumber, BadBytes, BadKind, TooLarge, NoFrame, NoMemory}
 use Rattle.frame.specs.Bounds.{causal}
 use Rattle.frame.specs.Frames.{Frame, free}
 use Rattle.frame.specs.Refusals.{Refused}
@@ -24,8 +24,12 @@ printed b = cond (leb 33 b && leb b 126) b 63
 abbrev pub frame-line : Frame → List ℕ
 frame-line f = codes "frame " ++ (frame-text f ++ (codes " causal " ++ (yes-no (causal (f .units) (f .end)) ++ (codes " free " ++ yes-no (free f)))))
 
+abbrev pub refusal-line : Refused → List ℕ
+refusal-line e = codes "refused " ++ (decimal (e .number) ++ (codes " place " ++ (decimal (e .at .place) ++ (codes " layer " ++ decimal (e .layer)))))
+
+-- a clause's refusal goes on with the word at fault
 abbrev pub refused-line : Refused → List ℕ
-refused-line e = codes "refused " ++ (decimal (e .number) ++ (codes " place " ++ (decimal (e .at .place) ++ (codes " layer " ++ (decimal (e .layer) ++ (codes " word \"" ++ (map printed (e .at .text) ++ codes "\"")))))))
+refused-line e = refusal-line e ++ (codes " word \"" ++ (map printed (e .at .text) ++ codes "\""))
 
 -- the answer to a clause: its frame, or why it is refused and at which word
 abbrev pub clause-line : Result Frame Refused → List ℕ
@@ -35,7 +39,13 @@ clause-line (Err e) = refused-line e
 abbrev pub mistake-text : Mistake → List ℕ
 mistake-text UnknownCommand = codes "unknown command"
 mistake-text TooManyWords = codes "too many words"
+mistake-text MissingWord = codes "a word is missing"
+mistake-text BadNumber = codes "not a number that fits"
+mistake-text BadBytes = codes "bytes have two digits each, or a point for none"
+mistake-text BadKind = codes "no such kind here"
+mistake-text TooLarge = codes "a table has at most 16777216 entries"
 mistake-text NoFrame = codes "no frame: read a clause first"
+mistake-text NoMemory = codes "out of memory"
 
 abbrev pub error-line : Mistake → List ℕ
 error-line m = codes "error " ++ mistake-text m

@@ -1,12 +1,12 @@
 ghost use mathlib.Core.Path.{_≡_};
-ghost use mathlib.Core.List.{map};
+ghost use mathlib.Core.List.{[], map};
 ghost use Rattle.std.specs.Of.String.{string-bytes};
 ghost use Rattle.std.specs.Vec.{made};
 ghost use Rattle.std.specs.declared.option.Option.the-variants.{Some};
 ghost use Rattle.frame.specs.Faults.{answer as read-as};
 ghost use Rattle.frame.specs.Frames.{framed};
 ghost use Rattle.frame.specs.Refusals.{refusal-of};
-ghost use Rattle.readback.specs.Lines.{yes-no, printed, frame-line, refused-line, clause-line, mistake-text, error-line};
+ghost use Rattle.readback.specs.Lines.{yes-no, printed, frame-line, refusal-line, refused-line, clause-line, mistake-text, error-line};
 use crate::command::Mistake;
 use frame::clause::Reading;
 use frame::frame::WindowFrame;
@@ -48,17 +48,22 @@ pub fn frame_line(heap: Global, frame: &WindowFrame) -> Result<String, AllocErro
     format!(heap, "frame {frame} causal {causal} free {free}")
 }
 
-fn refused_line(heap: Global, refusal: Refusal, word: &[u8]) -> Result<String, AllocError>
-    ensures { λ r. ⌜ made r (λ s. string-bytes s ≡ refused-line (refusal-of refusal (now (word .entry)))) ⌝ }
+// A refusal that has no word.
+pub fn refusal_line(heap: Global, refusal: Refusal) -> Result<String, AllocError>
+    ensures { λ r. ⌜ made r (λ s. string-bytes s ≡ refusal-line (refusal-of refusal [])) ⌝ }
 {
     let number = refusal.reason.number();
     let place = refusal.place;
     let layer = refusal.layer.number();
+    format!(heap, "refused {number} place {place} layer {layer}")
+}
+
+fn refused_line(heap: Global, refusal: Refusal, word: &[u8]) -> Result<String, AllocError>
+    ensures { λ r. ⌜ made r (λ s. string-bytes s ≡ refused-line (refusal-of refusal (now (word .entry)))) ⌝ }
+{
+    let refused = refusal_line(heap, refusal)?;
     let word = shown_word(heap, word)?;
-    format!(
-        heap,
-        "refused {number} place {place} layer {layer} word \"{word}\""
-    )
+    format!(heap, "{refused} word \"{word}\"")
 }
 
 // The answer to a clause.
@@ -78,7 +83,13 @@ impl fmt::Display for Mistake as MistakeDisplay {
         match self {
             Mistake::UnknownCommand => f.write_str("unknown command"),
             Mistake::TooManyWords => f.write_str("too many words"),
+            Mistake::MissingWord => f.write_str("a word is missing"),
+            Mistake::BadNumber => f.write_str("not a number that fits"),
+            Mistake::BadBytes => f.write_str("bytes have two digits each, or a point for none"),
+            Mistake::BadKind => f.write_str("no such kind here"),
+            Mistake::TooLarge => f.write_str("a table has at most 16777216 entries"),
             Mistake::NoFrame => f.write_str("no frame: read a clause first"),
+            Mistake::NoMemory => f.write_str("out of memory"),
         }
     }
 }

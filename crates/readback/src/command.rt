@@ -1,6 +1,8 @@
 ghost use mathlib.Core.Path.{_≡_};
 ghost use Rattle.std.specs.shelf.Text.{sameBytes};
 ghost use Rattle.readback.specs.Commands.{command, meant, head, rest, passed-over};
+use std::alloc::AllocError;
+use std::alloc::Refused;
 
 // What a line of the script asks for.
 #[derive(Clone, Copy)]
@@ -9,6 +11,8 @@ pub enum Command<'a> {
     Nothing,
     Clause(&'a [u8]),
     Reverse,
+    Scan(&'a [u8]),
+    View(&'a [u8]),
     Wrong(Mistake),
 }
 
@@ -17,11 +21,42 @@ pub enum Command<'a> {
 pub enum Mistake {
     UnknownCommand,
     TooManyWords,
+    MissingWord,
+    BadNumber,
+    BadBytes,
+    BadKind,
+    TooLarge,
     NoFrame,
+    NoMemory,
+}
+
+// Why a command has no answer of its own.
+#[derive(Clone, Copy)]
+pub enum Trouble {
+    Memory,
+    Script(Mistake),
+}
+
+pub impl From<AllocError> for Trouble as TroubleFromAlloc {
+    fn from(_e: AllocError) -> Trouble {
+        Trouble::Memory
+    }
+}
+
+pub impl<T: Drop> From<Refused<T>> for Trouble as TroubleFromRefused {
+    fn from(_e: Refused<T>) -> Trouble {
+        Trouble::Memory
+    }
+}
+
+pub impl From<Mistake> for Trouble as TroubleFromMistake {
+    fn from(e: Mistake) -> Trouble {
+        Trouble::Script(e)
+    }
 }
 
 // A line's first word, and what stands behind the space after it.
-fn cut(line: &[u8]) -> (&[u8], &[u8])
+pub fn cut(line: &[u8]) -> (&[u8], &[u8])
     ensures word { λ r. ⌜ now (r .0) ≡ head (now (line .entry)) ⌝ }
     ensures behind { λ r. ⌜ now (r .1) ≡ rest (now (line .entry)) ⌝ }
 {
@@ -33,7 +68,7 @@ fn cut(line: &[u8]) -> (&[u8], &[u8])
     (line, &line[line.len()..])
 }
 
-fn is(word: &[u8], name: &str) -> bool
+pub fn is(word: &[u8], name: &str) -> bool
     ensures { λ r. ⌜ r ≡ sameBytes (now (word .entry)) (now (name .entry)) ⌝ }
 {
     word == name.as_bytes()
@@ -65,6 +100,10 @@ pub fn read_command(line: &[u8]) -> Command<'_>
         } else {
             Command::Wrong(Mistake::TooManyWords)
         }
+    } else if is(word, "scan") {
+        Command::Scan(behind)
+    } else if is(word, "view") {
+        Command::View(behind)
     } else {
         Command::Wrong(Mistake::UnknownCommand)
     }

@@ -4,7 +4,10 @@ use std::io::BufRead;
 use std::io::BufReader;
 
 mod answer;
+mod args;
 mod command;
+mod keys;
+mod packs;
 mod session;
 
 use session::Session;

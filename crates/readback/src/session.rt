@@ -7,17 +7,29 @@ ghost use Rattle.frame.specs.Clause.{clause as clause-of-text};
 ghost use Rattle.frame.specs.Frames.{reversed};
 ghost use Rattle.readback.specs.Commands.{command};
 ghost use Rattle.readback.specs.Lines.{clause-line};
-ghost use Rattle.readback.specs.Scripts.{current, taken, after, reverse-line, reply};
+ghost use Rattle.readback.specs.Scripts.{current, taken, after, reverse-line, Replies};
 use crate::answer::clause_line;
 use crate::answer::error_line;
 use crate::answer::frame_line;
 use crate::command::Command;
 use crate::command::Mistake;
+use crate::command::Trouble;
 use crate::command::read_command;
+use crate::packs::scan_line;
+use crate::packs::view_line;
 use frame::clause::read_clause;
 use frame::frame::WindowFrame;
 use std::alloc::AllocError;
 use std::alloc::Global;
+
+// A command's answer, where trouble is answered too.
+fn told(heap: Global, answer: Result<String, Trouble>) -> Result<String, AllocError> {
+    match answer {
+        Ok(text) => Ok(text),
+        Err(Trouble::Script(mistake)) => error_line(heap, mistake),
+        Err(Trouble::Memory) => error_line(heap, Mistake::NoMemory),
+    }
+}
 
 // What a script has set up so far.
 #[derive(Drop)]
@@ -34,13 +46,15 @@ impl Session {
 
     // Carries out one line, and answers it unless it asks for nothing.
     pub fn answer(&mut self, heap: Global, line: &[u8]) -> Result<Option<String>, AllocError>
-        ensures reply { λ r. ⌜ made r (λ a. mapped string-bytes a ≡ reply (current (now (self .entry))) (command (now (line .entry)))) ⌝ }
+        ensures reply { λ r. ⌜ made r (λ a. Replies (current (now (self .entry))) (command (now (line .entry))) (mapped string-bytes a)) ⌝ }
         ensures state { λ _. ⌜ current (now (self .exit)) ≡ after (current (now (self .entry))) (command (now (line .entry))) ⌝ }
     {
         let answer = match read_command(line) {
             Command::Nothing => return Ok(None),
             Command::Clause(text) => self.clause(heap, text)?,
             Command::Reverse => self.reverse(heap)?,
+            Command::Scan(args) => told(heap, scan_line(heap, args))?,
+            Command::View(args) => told(heap, view_line(heap, args))?,
             Command::Wrong(mistake) => error_line(heap, mistake)?,
         };
         Ok(Some(answer))

@@ -1,10 +1,9 @@
-use mathlib.Core.Path.{_≡_}
+use mathlib.Core.Path.{_∙_}
 use Rattle.std.proofs.shelf.Results.{made-weaker}
 use Rattle.readback.proofs.answer.refused_line.Needs as need
 
 pub returns : need.returns
 returns c =
-    let n = c .number-number .ensures in
-    let l = c .number-layer .ensures in
+    let f = c .in-Continue-refused .ensures tt in
     let w = c .in-Continue-word .ensures tt in
-    made-weaker (c .format .result) _ _ (λ s e. cc (n, l, w)) (c .format .ensures .made)
+    made-weaker (c .format .result) _ _ (λ s e. e ∙ simp (f, w)) (c .format .ensures .made)
