@@ -19,9 +19,9 @@ use Rattle.transcript.proofs.Held.{outside, inside}
 use Rattle.packed.specs.declared.line.LineFault.{LineFault}
 use Rattle.packed.specs.declared.view.PackedView.{PackedView}
 use Rattle.packed.specs.Fields.{Line, line-of}
-use Rattle.packed.specs.Scans.{walk-of, limited}
-use Rattle.packed.specs.Views.{first-lines, behind, at-place, by-places, keyed, held-count, held, counted, view-of, Agrees, from-line}
-use Rattle.packed.proofs.Walked.{found, not-found, places-lines, gone, behind-at}
+use Rattle.packed.specs.Scans.{by-line, walk-of, limited}
+use Rattle.packed.specs.Views.{first-lines, behind, at-place, by-places, keyed, held-count, held, counted, view-of, Agrees, place-of, from-line}
+use Rattle.packed.proofs.Walked.{places-lines, gone, behind-at}
 
 length-places : (n : ℕ) (es bs : List ℕ) → length (by-places n es bs) ≡ n
 length-places zero es bs = refl
@@ -45,40 +45,56 @@ keyed-some : {K : Type 0} (reads : Line → Option K) (xs : List Line) → map (
 keyed-some reads [] = refl
 keyed-some {K} reads (x ∷ xs) = ap (λ (ys : List (Option K)). reads x ∷ ys) (keyed-some reads xs)
 
+drop-least : (p : ℕ) (bs : List ℕ) → drop (min p (length bs)) bs ≡ drop p bs
+drop-least p bs =
+    ⊎-elim
+    (λ (lt : p < length bs). ap (λ (k : ℕ). drop k bs) (omega arith))
+    (λ (ge : length bs ≤ p). ap (λ (k : ℕ). drop k bs) (omega arith) ∙ drop-all (length bs) bs (omega arith) ∙ sym (drop-all p bs ge))
+    (cases-lt p (length bs))
+
+module _ {K : Type 0} (v : PackedView K) (i : ℕ) where
+  abbrev begins : Bool → List ℕ
+  begins b = drop (cond b (min (getD (v .places .now) i 0) (length (v .bytes .now))) (length (v .bytes .now))) (v .bytes .now)
+
+  -- no line is left
+  pub place-none : (v .count ≤ i) ⊎ (length (v .places .now) ≤ i) → drop (place-of v i) (v .bytes .now) ≡ []
+  place-none (inl h) = ap begins (and-left _ _ (le-ltb _ _ h)) ∙ drop-all (length (v .bytes .now)) (v .bytes .now) (omega arith)
+  place-none (inr h) = ap begins (and-right _ _ (le-ltb _ _ h)) ∙ drop-all (length (v .bytes .now)) (v .bytes .now) (omega arith)
+
+  -- the line begins where its entry says
+  pub place-some : i < v .count → i < length (v .places .now) → drop (place-of v i) (v .bytes .now) ≡ drop (getD (v .places .now) i 0) (v .bytes .now)
+  place-some g h = ap begins (and-from _ _ (lt-ltb _ _ g) (lt-ltb _ _ h)) ∙ drop-least (getD (v .places .now) i 0) (v .bytes .now)
+
 module _ {K : Type 0} (reads : Line → Option K) (v : PackedView K) where
-  held-length : length (held reads v) ≡ held-count v
+  pub held-length : length (held reads v) ≡ held-count v
   held-length = simp (length-map, length-places)
 
   pub packed-total : v .first ≤ 4294967295 → v .first + min (v .count) (4294967295 - v .first) ≡ v .first + length (held reads v)
   packed-total fits = omega (arith, held-length)
 
-  pub packed-outside : (n : ℕ) → (n < v .first) ⊎ ((v .first ≤ n) × ((4294967295 ≤ n) ⊎ (v .count ≤ n - v .first))) → None ≡ at-line (v .first) (held reads v) n
-  packed-outside n (inl h) = outside _ _ n (inl h)
-  packed-outside n (inr (h, inl g)) = outside _ _ n (inr (h, omega (arith, held-length)))
-  packed-outside n (inr (h, inr g)) = outside _ _ n (inr (h, omega (arith, held-length)))
+  -- a line that is held is what stands at its place
+  held-at : (i : ℕ) → i < held-count v → getD (by-places (held-count v) (v .places .now) (v .bytes .now)) i None ≡ at-place (v .bytes .now) (place-of v i)
+  held-at i lt =
+      ⊎-elim
+      (λ (entry : i < length (v .places .now)). places-in (held-count v) (v .places .now) (v .bytes .now) i lt entry ∙ ap (λ (xs : List ℕ). by-line (line-of xs) (λ (x : Line × List ℕ). Some (x .0)) (λ (f : LineFault). None)) (sym (place-some v i (omega arith) entry)))
+      (λ (past : length (v .places .now) ≤ i). places-past (held-count v) (v .places .now) (v .bytes .now) i past ∙ ap (λ (xs : List ℕ). by-line (line-of xs) (λ (x : Line × List ℕ). Some (x .0)) (λ (f : LineFault). None)) (sym (place-none v i (inr past))))
+      (cases-lt i (length (v .places .now)))
 
-  module _ (n : ℕ) (low : v .first ≤ n) (high : n < 4294967295) (in-count : n - v .first < v .count) where
-    packed-at : (o : Option Line) → getD (by-places (held-count v) (v .places .now) (v .bytes .now)) (n - v .first) None ≡ o → keyed reads o ≡ at-line (v .first) (held reads v) n
-    packed-at o e =
-        let xs = by-places (held-count v) (v .places .now) (v .bytes .now) in
-        let lt : n - v .first < length xs = omega (arith, length-places (held-count v) (v .places .now) (v .bytes .now)) in
-        inside (v .first) (held reads v) n _ low (getD-map (keyed reads) xs (n - v .first) None None lt ∙ ap (keyed reads) e)
+  packed-at : (n : ℕ) → v .first ≤ n → n < 4294967295 → keyed reads (at-place (v .bytes .now) (place-of v (n - v .first))) ≡ at-line (v .first) (held reads v) n
+  packed-at n low high =
+      ⊎-elim
+      (λ (lt : n - v .first < v .count).
+      let xs = by-places (held-count v) (v .places .now) (v .bytes .now) in
+      let in-held : n - v .first < length xs = omega (arith, length-places (held-count v) (v .places .now) (v .bytes .now)) in
+      inside (v .first) (held reads v) n _ low (getD-map (keyed reads) xs (n - v .first) None None in-held ∙ ap (keyed reads) (held-at (n - v .first) (omega arith))))
+      (λ (ge : v .count ≤ n - v .first). ap (λ (xs : List ℕ). keyed reads (by-line (line-of xs) (λ (x : Line × List ℕ). Some (x .0)) (λ (f : LineFault). None))) (place-none v (n - v .first) (inl ge)) ∙ outside (v .first) (held reads v) n (inr (low, omega (arith, held-length))))
+      (cases-lt (n - v .first) (v .count))
 
-    pub no-entry : length (v .places .now) ≤ n - v .first → None ≡ at-line (v .first) (held reads v) n
-    no-entry h = packed-at None (places-past (held-count v) (v .places .now) (v .bytes .now) (n - v .first) h)
-
-    module _ (place : ℕ) (entry : n - v .first < length (v .places .now)) (is : place ≡ getD (v .places .now) (n - v .first) 0) where
-      at : getD (by-places (held-count v) (v .places .now) (v .bytes .now)) (n - v .first) None ≡ at-place (v .bytes .now) place
-      at = places-in (held-count v) (v .places .now) (v .bytes .now) (n - v .first) (omega arith) entry ∙ ap (at-place (v .bytes .now)) (sym is)
-
-      pub past-bytes : length (v .bytes .now) < place → None ≡ at-line (v .first) (held reads v) n
-      past-bytes h = packed-at None (at ∙ ap (λ (bs : List ℕ). at-place bs 0) (drop-all place (v .bytes .now) (omega arith)))
-
-      pub no-line : (f : LineFault) → Err f ≡ line-of (take (length (v .bytes .now) - place) (drop place (v .bytes .now))) → None ≡ at-line (v .first) (held reads v) n
-      no-line f e = packed-at None (at ∙ not-found (v .bytes .now) place f (e ∙ ap line-of (take-rest (v .bytes .now) place)))
-
-      pub a-line : (x : Line × List ℕ) → Ok x ≡ line-of (take (length (v .bytes .now) - place) (drop place (v .bytes .now))) → reads (x .0) ≡ at-line (v .first) (held reads v) n
-      a-line x e = packed-at (Some (x .0)) (at ∙ found (v .bytes .now) place x (e ∙ ap line-of (take-rest (v .bytes .now) place)))
+  -- what is read at a line's place is that line
+  pub read-at : (n p : ℕ) → v .first ≤ n → n < 4294967295 → p ≡ place-of v (n - v .first) → (r : Result (Line × List ℕ) LineFault) → r ≡ line-of (take (length (v .bytes .now) - p) (drop p (v .bytes .now))) → keyed reads (by-line r (λ x. Some (x .0)) (λ f. None)) ≡ at-line (v .first) (held reads v) n
+  read-at n p low high is r e =
+      ap (λ (z : Result (Line × List ℕ) LineFault). keyed reads (by-line z (λ (x : Line × List ℕ). Some (x .0)) (λ (f : LineFault). None))) (e ∙ ap line-of (take-rest (v .bytes .now) p) ∙ ap (λ (q : ℕ). line-of (drop q (v .bytes .now))) is)
+      ∙ packed-at n low high
 
   -- a view that is made
   pub made-view : (first : ℕ) (es bs : List ℕ) → v .first ≡ first → v .bytes .now ≡ bs → v .places .now ≡ es → first + v .count ≤ 4294967295 → walk-of true es 0 0 bs ≡ Ok (v .count) → Ok (v .first, held reads v) ≡ view-of reads first es bs
@@ -93,26 +109,12 @@ module _ {K : Type 0} (reads : Line → Option K) (v : PackedView K) where
       ∙ ap (λ (b : Bool). counted reads first bs (cond b (Ok (v .count)) (Err too-many))) (le-leb (first + v .count) 4294967295 h))
 
 -- the bytes from a line on
-module _ {K : Type 0} (v : PackedView K) (n : ℕ) where
-  abbrev tested : Bool → List ℕ
-  tested b = cond b (drop (getD (v .places .now) (n - v .first) 0) (v .bytes .now)) []
-
-  pub from-none : (v .count ≤ n - v .first) ⊎ (length (v .places .now) ≤ n - v .first) → [] ≡ from-line v n
-  from-none h = sym (ap tested (no-part h))
-    where
-      no-part : (v .count ≤ n - v .first) ⊎ (length (v .places .now) ≤ n - v .first) → (ltb (n - v .first) (v .count) && ltb (n - v .first) (length (v .places .now))) ≡ false
-      no-part (inl g) = and-left _ _ (le-ltb _ _ g)
-      no-part (inr g) = and-right _ _ (le-ltb _ _ g)
-
-  pub from-some : n - v .first < v .count → n - v .first < length (v .places .now) → drop (getD (v .places .now) (n - v .first) 0) (v .bytes .now) ≡ from-line v n
-  from-some g h = sym (ap tested (and-from _ _ (lt-ltb _ _ g) (lt-ltb _ _ h)))
-
-  pub handed : Agrees v → from-line v n ≡ behind (n - v .first) (v .bytes .now)
-  handed a =
-      let c : walk-of true (v .places .now) 0 0 (v .bytes .now) ≡ Ok (0 + v .count) = a ∙ ap Ok (omega arith) in
-      ⊎-elim
-      (λ (lt : n - v .first < v .count).
-      let b = behind-at (v .bytes .now) (v .places .now) 0 0 (v .bytes .now) (v .count) (n - v .first) refl c lt in
-      sym (from-some lt (b .0)) ∙ sym (b .1))
-      (λ (ge : v .count ≤ n - v .first). sym (from-none (inl ge)) ∙ sym (gone (v .places .now) 0 0 (v .bytes .now) (v .count) (n - v .first) c ge))
-      (cases-lt (n - v .first) (v .count))
+pub handed : {K : Type 0} (v : PackedView K) (n : ℕ) → Agrees v → from-line v n ≡ behind (n - v .first) (v .bytes .now)
+handed v n a =
+    let c : walk-of true (v .places .now) 0 0 (v .bytes .now) ≡ Ok (0 + v .count) = a ∙ ap Ok (omega arith) in
+    ⊎-elim
+    (λ (lt : n - v .first < v .count).
+    let b = behind-at (v .bytes .now) (v .places .now) 0 0 (v .bytes .now) (v .count) (n - v .first) refl c lt in
+    place-some v (n - v .first) lt (b .0) ∙ sym (b .1))
+    (λ (ge : v .count ≤ n - v .first). place-none v (n - v .first) (inl ge) ∙ sym (gone (v .places .now) 0 0 (v .bytes .now) (v .count) (n - v .first) c ge))
+    (cases-lt (n - v .first) (v .count))

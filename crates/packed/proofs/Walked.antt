@@ -70,11 +70,8 @@ gone (e ∷ es) n at (b ∷ bs) (suc c) (suc k) w h =
     let q : n + suc c ≡ (n + 1) + c = omega arith in
     behind-more k (b ∷ bs) (p .0) (p .1) ∙ gone es (n + 1) _ (p .0 .1) c k (p .3 ∙ ap Ok q) (omega arith)
 
-pub found : (bs : List ℕ) (p : ℕ) (x : Line × List ℕ) → Ok x ≡ line-of (drop p bs) → at-place bs p ≡ Some (x .0)
+found : (bs : List ℕ) (p : ℕ) (x : Line × List ℕ) → Ok x ≡ line-of (drop p bs) → at-place bs p ≡ Some (x .0)
 found bs p x e = rw (← e)
-
-pub not-found : (bs : List ℕ) (p : ℕ) (f : LineFault) → Err f ≡ line-of (drop p bs) → at-place bs p ≡ None
-not-found bs p f e = rw (← e)
 
 -- all is the whole of the bytes, of which r are those from a place on
 pub places-lines : (all es : List ℕ) (n at : ℕ) (r : List ℕ) (k : ℕ) → r ≡ drop at all → walk-of true es n at r ≡ Ok (n + k) → by-places k es all ≡ map Some (first-lines k r)

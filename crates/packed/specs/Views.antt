@@ -68,9 +68,13 @@ pub record Whole {K : Type 0} (v : PackedView K) (bs : List ℕ) : Type 0 where
   pub holds : v .bytes .now ≡ bs
   pub agrees : Agrees v
 
+-- where the line behind k others begins, as the table has it; the end of the bytes where there is none
+abbrev pub place-of : {K : Type 0} → PackedView K → ℕ → ℕ
+place-of v k = cond (ltb k (v .count) && ltb k (length (v .places .now))) (min (getD (v .places .now) k 0) (length (v .bytes .now))) (length (v .bytes .now))
+
 -- the bytes from line n on, as the table has them
 abbrev pub from-line : {K : Type 0} → PackedView K → ℕ → List ℕ
-from-line v n = cond (ltb (n - v .first) (v .count) && ltb (n - v .first) (length (v .places .now))) (drop (getD (v .places .now) (n - v .first) 0) (v .bytes .now)) []
+from-line v n = drop (place-of v (n - v .first)) (v .bytes .now)
 
 -- where the table agrees with the bytes, these are the bytes behind the lines before line n
 abbrev pub kept-from : {K : Type 0} → PackedView K → ℕ → List ℕ → Type 0

@@ -1,6 +1,8 @@
 ghost use mathlib.Core.Path.{_≡_};
+ghost use Prim.Native.Nat.{_≤_};
+ghost use lib.ListN.{length};
 ghost use Rattle.std.specs.Vec.{made};
-ghost use Rattle.packed.specs.Views.{held, meaning, view-of, Whole, from-line, kept-from};
+ghost use Rattle.packed.specs.Views.{held, meaning, view-of, Whole, place-of, from-line, kept-from};
 use crate::line::PackedLine;
 use crate::reads::PackedKey;
 use crate::scan::refused;
@@ -43,19 +45,24 @@ impl<'a, 'p, K: PackedKey> PackedView<'a, 'p, K> {
         })
     }
 
+    // Where line `first + k` begins: the end of the bytes where no such line is left.
+    fn place_of(&self, k: u32) -> usize
+        ensures value { λ r. ⌜ r ≡ place-of (now (self .entry)) k ⌝ }
+        ensures bound { λ r. ⌜ r ≤ length (now (now (self .entry) .bytes)) ⌝ }
+    {
+        if k >= self.count || k as usize >= self.places.len() {
+            return self.bytes.len();
+        }
+        let place = self.places[k as usize] as usize;
+        place.min(self.bytes.len())
+    }
+
     // The bytes of the lines from `n` on; none where no line is left.
     pub fn bytes_from(&self, n: u32) -> &'a [u8]
         ensures table { λ r. ⌜ now r ≡ from-line (now (self .entry)) n ⌝ }
         ensures kept { λ r. ⌜ kept-from (now (self .entry)) n (now r) ⌝ }
     {
-        let skipped = n.saturating_sub(self.first);
-        if skipped >= self.count || skipped as usize >= self.places.len() {
-            return &self.bytes[self.bytes.len()..];
-        }
-        let place = self.places[skipped as usize] as usize;
-        if place > self.bytes.len() {
-            return &self.bytes[self.bytes.len()..];
-        }
+        let place = self.place_of(n.saturating_sub(self.first));
         &self.bytes[place..]
     }
 }
@@ -80,14 +87,7 @@ pub impl<'a, 'p, K: PackedKey> Transcript for PackedView<'a, 'p, K> as PackedTra
         if n < self.first || n == 4294967295 {
             return None;
         }
-        let i = n - self.first;
-        if i >= self.count || i as usize >= self.places.len() {
-            return None;
-        }
-        let place = self.places[i as usize] as usize;
-        if place > self.bytes.len() {
-            return None;
-        }
+        let place = self.place_of(n - self.first);
         match PackedLine::read(&self.bytes[place..]) {
             Ok((line, _)) => K::key_of(line),
             Err(_) => None,
