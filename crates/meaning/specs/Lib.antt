@@ -1,0 +1,9 @@
+pub mod Lines
+pub mod Counts
+pub mod Edges
+pub mod Rows
+pub mod Turns
+pub mod Ranges
+pub mod Clause
+pub mod Laws
+pub mod Samples

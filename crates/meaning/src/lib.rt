@@ -1,0 +1,3 @@
+// What a frame means over a transcript: the clause's window, and the laws that hold of it.
+pub mod laws;
+pub mod options;

@@ -1,0 +1,6 @@
+// How RANGE orders lines.
+#[derive(Clone, Copy, Debug, PartialEq, Eq)]
+pub struct SortOptions {
+    pub descending: bool,
+    pub unmarked_first: bool,
+}
