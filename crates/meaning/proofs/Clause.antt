@@ -27,15 +27,11 @@ use Rattle.frame.specs.declared.bound.WindowFrameUnits.the-variants.{Rows, Rang
 use Rattle.frame.specs.Bounds.{causal}
 use Rattle.meaning.specs.Clause.{same-rank, same-line, starts, ends, Fit, Settled, FromOn, UpTo, LineFromOn, LineUpTo, From, To}
 use Rattle.meaning.specs.Laws.{Same-decides, Clause-holds, Range-unsettled, Clause-lawful, Clause-monotone, Clause-causal, Clause-view, Clause-tracked, two, Clause-not-causal}
-use Rattle.meaning.specs.Samples.{Samples-hold}
 use Rattle.meaning.proofs.Edges.{monotone}
 use Rattle.meaning.proofs.Edges as E
 use Rattle.meaning.proofs.Rows as R
 use Rattle.meaning.proofs.Turns as G
 use Rattle.meaning.proofs.Ranges as V
-
-pub samples-hold : Samples-hold
-samples-hold = ((refl, refl), ((refl, refl), ((refl, refl), ((refl, refl), ((refl, refl), ((refl, refl), ((refl, refl), ((refl, refl), ((refl, refl), ((refl, refl), ((refl, refl), tt)))))))))))
 
 pub clause-lawful : Clause-lawful
 clause-lawful o Rows b F h = (R.start-lawful F b, R.end-lawful F b)

@@ -41,11 +41,10 @@ module _ (u : Bool) where
   target-opposite : (b : WindowFrameBound) (x : Line) → opposite (target (sorting true u) b x) ≡ target (sorting false u) b (opposite x)
   target-opposite (Preceding n) (Some a) = ap Some (omega (arith, ints))
   target-opposite (Following n) (Some a) = ap Some (omega (arith, ints))
-  target-opposite (Preceding n) None = refl
-  target-opposite (Following n) None = refl
-  target-opposite UnboundedPreceding x = refl
-  target-opposite CurrentRow x = refl
-  target-opposite UnboundedFollowing x = refl
+  target-opposite UnboundedPreceding (Some a) = refl
+  target-opposite CurrentRow (Some a) = refl
+  target-opposite UnboundedFollowing (Some a) = refl
+  target-opposite b None = refl
 
   module _ (b : WindowFrameBound) (F : List Line) (i : ℕ) where
     aims : opposite (target (sorting true u) b (getD F i None)) ≡ target (sorting false u) b (getD (map opposite F) i None)

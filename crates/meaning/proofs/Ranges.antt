@@ -88,16 +88,13 @@ module _ (o : SortOptions) where
   -- from a line that is not after another a bound has a target that is not after the other's
   pub target-rises : (b : WindowFrameBound) (x y : Line) → before o y x ≡ false → before o (target o b y) (target o b x) ≡ false
   target-rises (Preceding n) (Some a) (Some c) h = rank-back (o .descending) a c n h
-  target-rises (Preceding n) (Some a) None h = h
-  target-rises (Preceding n) None (Some c) h = h
-  target-rises (Preceding n) None None h = h
   target-rises (Following n) (Some a) (Some c) h = rank-onward (o .descending) a c n h
-  target-rises (Following n) (Some a) None h = h
-  target-rises (Following n) None (Some c) h = h
-  target-rises (Following n) None None h = h
-  target-rises UnboundedPreceding x y h = h
-  target-rises CurrentRow x y h = h
-  target-rises UnboundedFollowing x y h = h
+  target-rises UnboundedPreceding (Some a) (Some c) h = h
+  target-rises CurrentRow (Some a) (Some c) h = h
+  target-rises UnboundedFollowing (Some a) (Some c) h = h
+  target-rises b (Some a) None h = h
+  target-rises b None (Some c) h = h
+  target-rises b None None h = h
 
   itself : (x : Line) → before o x x ≡ false
   itself (Some a) = rank-itself (o .descending) a

@@ -6,7 +6,7 @@ use Prim.Native.Nat.{ℕ, _+_, min, _≤_, _<_}
 use lib.Dec.{ltb}
 use lib.IntN.{ℤ, pos, _+ℤ_, _-ℤ_, negℤ}
 use lib.ListN.{length, take, getD}
-use lib.Signed.{ltZ}
+use lib.Signed.{leZ, ltZ}
 use Rattle.std.specs.shelf.Lists.{countBy}
 use Rattle.std.specs.declared.option.Option.the-variants.{Some, None}
 use Rattle.frame.specs.declared.bound.WindowFrameBound.{WindowFrameBound}
@@ -19,6 +19,11 @@ use Rattle.meaning.specs.Edges.{Edge}
 abbrev pub rank-before : Bool → ℤ → ℤ → Bool
 rank-before false a b = ltZ a b
 rank-before true a b = ltZ b a
+
+-- rank b comes at most n after rank a
+abbrev pub rank-within : Bool → ℤ → ℤ → ℕ → Bool
+rank-within false a b n = leZ (b -ℤ a) (pos n)
+rank-within true a b n = leZ (a -ℤ b) (pos n)
 
 -- the rank n back from a, and n on
 abbrev pub back : Bool → ℤ → ℕ → ℤ
@@ -36,15 +41,25 @@ before o (Some a) None = not (o .«unmarked_first»)
 before o None (Some b) = o .«unmarked_first»
 before o None None = false
 
--- the target of a bound, from a line
+-- the rank that a bound aims at, from a rank
+abbrev pub rank-target : Bool → WindowFrameBound → ℤ → ℤ
+rank-target d UnboundedPreceding a = a
+rank-target d (Preceding n) a = back d a n
+rank-target d CurrentRow a = a
+rank-target d (Following n) a = onward d a n
+rank-target d UnboundedFollowing a = a
+
+-- the target of a bound, from a line: an unmarked line is its own
 abbrev pub target : SortOptions → WindowFrameBound → Line → Line
-target o (Preceding n) (Some a) = Some (back (o .descending) a n)
-target o (Following n) (Some a) = Some (onward (o .descending) a n)
-target o (Preceding n) None = None
-target o (Following n) None = None
-target o UnboundedPreceding x = x
-target o CurrentRow x = x
-target o UnboundedFollowing x = x
+target o b (Some a) = Some (rank-target (o .descending) b a)
+target o b None = None
+
+-- a key of rank x is ordered before the target of a bound from a key of rank y, and is not ordered after it
+abbrev pub key-leads : Bool → WindowFrameBound → ℤ → ℤ → Bool
+key-leads d b x y = rank-before d x (rank-target d b y)
+
+abbrev pub key-reaches : Bool → WindowFrameBound → ℤ → ℤ → Bool
+key-reaches d b x y = not (rank-before d (rank-target d b y) x)
 
 -- how many lines are ordered before y, and how many are not after it
 abbrev pub lead : SortOptions → List Line → Line → ℕ

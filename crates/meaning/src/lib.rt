@@ -1,3 +1,4 @@
 // What a frame means over a transcript: the clause's window, and the laws that hold of it.
 pub mod laws;
 pub mod options;
+pub mod order;
