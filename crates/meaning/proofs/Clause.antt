@@ -29,7 +29,7 @@ use Rattle.meaning.specs.Clause.{same-rank, same-line, starts, ends, Fit, Sett
 use Rattle.meaning.specs.Laws.{Same-decides, Clause-holds, Range-unsettled, Clause-lawful, Clause-monotone, Clause-causal, Clause-view, Clause-tracked, two, Clause-not-causal}
 use Rattle.meaning.proofs.Edges.{monotone}
 use Rattle.meaning.proofs.Edges as E
-use Rattle.meaning.proofs.Rows as R
+use Rattle.meaning.proofs.RowEdges as R
 use Rattle.meaning.proofs.Turns as G
 use Rattle.meaning.proofs.Ranges as V
 

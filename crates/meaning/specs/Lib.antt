@@ -5,5 +5,6 @@ pub mod Rows
 pub mod Turns
 pub mod Ranges
 pub mod Clause
+pub mod Tests
 pub mod Laws
 pub mod Samples

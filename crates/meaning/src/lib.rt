@@ -2,3 +2,5 @@
 pub mod laws;
 pub mod options;
 pub mod order;
+pub mod rows;
+pub mod search;
