@@ -6,5 +6,6 @@ pub mod Turns
 pub mod Ranges
 pub mod Clause
 pub mod Tests
+pub mod Views
 pub mod Laws
 pub mod Samples

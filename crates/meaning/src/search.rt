@@ -46,6 +46,7 @@ pub fn count_passing<T: LineTest>(test: &T, from: u32, total: u32) -> u32
 }
 
 // A line is the same as the one before it.
+#[derive(Drop)]
 pub struct Alike<'a, V> {
     pub view: &'a V,
 }
@@ -59,6 +60,7 @@ pub impl<'a, K: KeyKind, V: Transcript<Key = K>> LineTest for Alike<'a, V> as Al
 }
 
 // A line is not the same as the one before it.
+#[derive(Drop)]
 pub struct Parts<'a, V> {
     pub view: &'a V,
 }
@@ -72,6 +74,7 @@ pub impl<'a, K: KeyKind, V: Transcript<Key = K>> LineTest for Parts<'a, V> as Pa
 }
 
 // A line is not ordered before the one before it.
+#[derive(Drop)]
 pub struct Orderly<'a, V> {
     pub view: &'a V,
     pub options: SortOptions,
@@ -90,6 +93,7 @@ pub impl<'a, K: KeyKind, V: Transcript<Key = K>> LineTest for Orderly<'a, V> as 
 }
 
 // A line is ordered before the target of a bound from another line.
+#[derive(Drop)]
 pub struct Leads<'a, V> {
     pub view: &'a V,
     pub options: SortOptions,
@@ -111,6 +115,7 @@ pub impl<'a, K: KeyKind, V: Transcript<Key = K>> LineTest for Leads<'a, V> as Le
 }
 
 // A line is not ordered after the target of a bound from another line.
+#[derive(Drop)]
 pub struct Reaches<'a, V> {
     pub view: &'a V,
     pub options: SortOptions,
