@@ -118,10 +118,10 @@ module _ (o : SortOptions) (F : List Line) (sorted : InOrder o F) where
   abbrev reaches-at : Line → ℕ → Bool
   reaches-at y j = not (before o y (getD F j None))
 
-  lead-front : (y : Line) → Front (leads-at y) (length F)
+  pub lead-front : (y : Line) → Front (leads-at y) (length F)
   lead-front y j k h l p = leads o (getD F k None) (getD F j None) y (ordered j k h l) p
 
-  reach-front : (y : Line) → Front (reaches-at y) (length F)
+  pub reach-front : (y : Line) → Front (reaches-at y) (length F)
   reach-front y j k h l p = not-from-false _ (not-after o (getD F j None) (getD F k None) y (ordered j k h l) (not-true _ p))
 
   at-rest : (f i : ℕ) → f ≤ i → getD (drop f F) (i - f) None ≡ getD F i None

@@ -9,3 +9,4 @@ pub mod Tests
 pub mod Views
 pub mod Laws
 pub mod Samples
+pub mod Opening

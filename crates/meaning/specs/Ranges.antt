@@ -2,7 +2,7 @@
 use mathlib.Core.Path.{_≡_}
 use mathlib.Core.Bool.{Bool, true, false, not}
 use mathlib.Core.List.{List, map}
-use Prim.Native.Nat.{ℕ, _+_, min, _≤_, _<_}
+use Prim.Native.Nat.{ℕ, _+_, _-_, _≤_, _<_}
 use lib.Dec.{ltb}
 use lib.IntN.{ℤ, pos, _+ℤ_, _-ℤ_, negℤ}
 use lib.ListN.{length, take, getD}
@@ -13,6 +13,7 @@ use Rattle.frame.specs.declared.bound.WindowFrameBound.{WindowFrameBound}
 use Rattle.frame.specs.declared.bound.WindowFrameBound.the-variants.{UnboundedPreceding, Preceding, CurrentRow, Following, UnboundedFollowing}
 use Rattle.meaning.specs.Lines.{Line}
 use Rattle.meaning.specs.declared.options.SortOptions.{SortOptions}
+use Rattle.meaning.specs.Counts.{walk}
 use Rattle.meaning.specs.Edges.{Edge}
 
 -- rank a comes before rank b
@@ -89,6 +90,10 @@ InOrder o F = (j : ℕ) → j + 1 < length F → before o (getD F (j + 1) None) 
 -- in order, the lines before any y are a front, and so are those not after it: each count is the first line that fails
 abbrev pub Range-fronts : Type 0
 Range-fronts = (o : SortOptions) (F : List Line) → InOrder o F → (y : Line) (j : ℕ) → j < length F → (before o (getD F j None) y ≡ ltb j (lead o F y)) × (not (before o y (getD F j None)) ≡ ltb j (reach o F y))
+
+-- in order, a walk from any line that still passes ends at the count
+abbrev pub Range-walked : Type 0
+Range-walked = (o : SortOptions) (F : List Line) → InOrder o F → (y : Line) (a : ℕ) → (a ≤ lead o F y → walk (λ j. before o (getD F j None) y) a (length F - a) ≡ lead o F y) × (a ≤ reach o F y → walk (λ j. not (before o y (getD F j None))) a (length F - a) ≡ reach o F y)
 
 -- the opposite rank
 abbrev pub opposite : Line → Line

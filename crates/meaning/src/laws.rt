@@ -1,6 +1,6 @@
 ghost use Rattle.meaning.specs.Laws.{Same-decides, Clause-lawful, Clause-monotone, Clause-causal, Clause-not-causal, Clause-view, Clause-tracked, Clause-holds, Range-unsettled};
 ghost use Rattle.meaning.specs.Lines.{Line};
-ghost use Rattle.meaning.specs.Ranges.{Range-fronts, Range-mirror};
+ghost use Rattle.meaning.specs.Ranges.{Range-fronts, Range-walked, Range-mirror};
 ghost use Rattle.meaning.specs.Samples.{Samples-hold, Tables-hold};
 ghost use Rattle.meaning.specs.Turns.{One-turn, Ends-listed, Ends-of-rest, Ends-of-front, Reached-monotone, Table-view, Table-filed};
 
@@ -28,6 +28,7 @@ pub fn turns() -> u8
 // Lines by their order.
 pub fn ranges() -> u8
     ensures fronts { λ _. ⌜ Range-fronts ⌝ }
+    ensures walked { λ _. ⌜ Range-walked ⌝ }
     ensures mirror { λ _. ⌜ Range-mirror ⌝ }
     ensures unsettled { λ _. ⌜ Range-unsettled ⌝ }
 {
