@@ -1,4 +1,5 @@
 // What a frame means over a transcript: the clause's window, and the laws that hold of it.
+pub mod explain;
 pub mod groups;
 pub mod laws;
 pub mod opening;
