@@ -5,8 +5,5 @@ pub mod Rows
 pub mod Turns
 pub mod Ranges
 pub mod Clause
-pub mod Tests
-pub mod Views
 pub mod Laws
 pub mod Samples
-pub mod Opening

@@ -1,0 +1,3 @@
+pub mod Seeking
+pub mod Sorting
+pub mod Explaining
