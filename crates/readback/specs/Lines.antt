@@ -8,7 +8,7 @@ use Rattle.std.specs.Written.{decimal}
 use Rattle.std.specs.declared.result.Result.{Result}
 use Rattle.std.specs.declared.result.Result.the-variants.{Ok, Err}
 use Rattle.readback.specs.declared.command.Mistake.{Mistake}
-use Rattle.readback.specs.declared.command.Mistake.the-variants.{UnknownCommand, TooManyWords, MissingWord, BadNumber, BadBytes, BadKind, TooLarge, NoFrame, NoMemory}
+use Rattle.readback.specs.declared.command.Mistake.the-variants.{UnknownCommand, TooManyWords, MissingWord, BadNumber, BadBytes, BadKind, BadOption, BadKey, TooLarge, NoSuchLine, OutOfOrder, NoFrame, NoMemory}
 use Rattle.frame.specs.Bounds.{causal}
 use Rattle.frame.specs.Frames.{Frame, free}
 use Rattle.frame.specs.Refusals.{Refused}
@@ -43,6 +43,10 @@ mistake-text MissingWord = codes "a word is missing"
 mistake-text BadNumber = codes "not a number that fits"
 mistake-text BadBytes = codes "bytes have two digits each, or a point for none"
 mistake-text BadKind = codes "no such kind here"
+mistake-text BadOption = codes "the order is asc or desc, unmarked lines stand first or last"
+mistake-text BadKey = codes "not a key of this kind"
+mistake-text NoSuchLine = codes "no such line"
+mistake-text OutOfOrder = codes "the lines are out of order"
 mistake-text TooLarge = codes "a table has at most 16777216 entries"
 mistake-text NoFrame = codes "no frame: read a clause first"
 mistake-text NoMemory = codes "out of memory"

@@ -13,7 +13,7 @@ use Rattle.frame.specs.Frames.{Frame, framed, reversed}
 use Rattle.frame.specs.Refusals.{Refused}
 use Rattle.readback.specs.declared.command.Mistake.the-variants.{NoFrame}
 use Rattle.readback.specs.declared.session.Session.{Session}
-use Rattle.readback.specs.Commands.{Meant, nothing, clause, reverse, scan, view, wrong}
+use Rattle.readback.specs.Commands.{Meant, nothing, clause, reverse, scan, view, explain, wrong}
 use Rattle.readback.specs.Lines.{frame-line, clause-line, error-line}
 
 -- the current frame, if there is one
@@ -31,17 +31,19 @@ after s (clause text) = taken s (frames.clause text)
 after s reverse = mapped reversed s
 after s (scan args) = s
 after s (view args) = s
+after s (explain args) = s
 after s (wrong m) = s
 
 abbrev pub reverse-line : Option Frame → List ℕ
 reverse-line (Some f) = frame-line (reversed f)
 reverse-line None = error-line NoFrame
 
--- what is true of the answer to a line; of a scan and a view only that there is one
+-- what is true of the answer to a line; of a scan, a view and an explanation only that there is one
 abbrev pub Replies : Option Frame → Meant → Option (List ℕ) → Type 0
 Replies s nothing a = a ≡ None
 Replies s (clause text) a = a ≡ Some (clause-line (frames.clause text))
 Replies s reverse a = a ≡ Some (reverse-line s)
 Replies s (scan args) a = isSome a ≡ true
 Replies s (view args) a = isSome a ≡ true
+Replies s (explain args) a = isSome a ≡ true
 Replies s (wrong m) a = a ≡ Some (error-line m)

@@ -87,6 +87,12 @@ impl fmt::Display for Mistake as MistakeDisplay {
             Mistake::BadNumber => f.write_str("not a number that fits"),
             Mistake::BadBytes => f.write_str("bytes have two digits each, or a point for none"),
             Mistake::BadKind => f.write_str("no such kind here"),
+            Mistake::BadOption => f.write_str(
+                "the order is asc or desc, unmarked lines stand first or last",
+            ),
+            Mistake::BadKey => f.write_str("not a key of this kind"),
+            Mistake::NoSuchLine => f.write_str("no such line"),
+            Mistake::OutOfOrder => f.write_str("the lines are out of order"),
             Mistake::TooLarge => f.write_str("a table has at most 16777216 entries"),
             Mistake::NoFrame => f.write_str("no frame: read a clause first"),
             Mistake::NoMemory => f.write_str("out of memory"),

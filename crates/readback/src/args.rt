@@ -43,13 +43,9 @@ impl<'a> Args<'a> {
     pub fn number(&mut self) -> Result<u64, Mistake>
         ensures { λ r. ⌜ made r (λ _. left (now (self .exit)) < left (now (self .entry))) ⌝ }
     {
-        let word = self.word()?;
-        match (Span {
-            text: word,
-            place: 0,
-        }).number() {
-            Ok(n) => Ok(n),
-            Err(_) => Err(Mistake::BadNumber),
+        match number_of(self.word()?) {
+            Some(n) => Ok(n),
+            None => Err(Mistake::BadNumber),
         }
     }
 
@@ -96,6 +92,17 @@ impl<'a> Args<'a> {
         } else {
             Err(Mistake::TooManyWords)
         }
+    }
+}
+
+// The number of 64 bits that a word of decimal digits writes, if it does.
+pub fn number_of(word: &[u8]) -> Option<u64> {
+    match (Span {
+        text: word,
+        place: 0,
+    }).number() {
+        Ok(n) => Some(n),
+        Err(_) => None,
     }
 }
 

@@ -1,6 +1,6 @@
 ghost use mathlib.Core.Path.{_≡_};
 ghost use Rattle.std.specs.shelf.Text.{sameBytes};
-ghost use Rattle.readback.specs.Commands.{command, meant, head, rest, passed-over};
+ghost use Rattle.readback.specs.Commands.{command, meant, before-mark, behind-mark, head, rest, passed-over};
 use std::alloc::AllocError;
 use std::alloc::Refused;
 
@@ -13,6 +13,7 @@ pub enum Command<'a> {
     Reverse,
     Scan(&'a [u8]),
     View(&'a [u8]),
+    Explain(&'a [u8]),
     Wrong(Mistake),
 }
 
@@ -25,6 +26,10 @@ pub enum Mistake {
     BadNumber,
     BadBytes,
     BadKind,
+    BadOption,
+    BadKey,
+    NoSuchLine,
+    OutOfOrder,
     TooLarge,
     NoFrame,
     NoMemory,
@@ -55,17 +60,25 @@ pub impl From<Mistake> for Trouble as TroubleFromMistake {
     }
 }
 
+// What stands before the first `mark`, and what stands behind it: nothing where there is none.
+pub fn cut_at(line: &[u8], mark: u8) -> (&[u8], &[u8])
+    ensures word { λ r. ⌜ now (r .0) ≡ before-mark mark (now (line .entry)) ⌝ }
+    ensures behind { λ r. ⌜ now (r .1) ≡ behind-mark mark (now (line .entry)) ⌝ }
+{
+    for (i, b) in line.iter().enumerate() {
+        if *b == mark {
+            return (&line[0..i], &line[i + 1..]);
+        }
+    }
+    (line, &line[line.len()..])
+}
+
 // A line's first word, and what stands behind the space after it.
 pub fn cut(line: &[u8]) -> (&[u8], &[u8])
     ensures word { λ r. ⌜ now (r .0) ≡ head (now (line .entry)) ⌝ }
     ensures behind { λ r. ⌜ now (r .1) ≡ rest (now (line .entry)) ⌝ }
 {
-    for (i, b) in line.iter().enumerate() {
-        if *b == b' ' {
-            return (&line[0..i], &line[i + 1..]);
-        }
-    }
-    (line, &line[line.len()..])
+    cut_at(line, b' ')
 }
 
 pub fn is(word: &[u8], name: &str) -> bool
@@ -104,6 +117,8 @@ pub fn read_command(line: &[u8]) -> Command<'_>
         Command::Scan(behind)
     } else if is(word, "view") {
         Command::View(behind)
+    } else if is(word, "explain") {
+        Command::Explain(behind)
     } else {
         Command::Wrong(Mistake::UnknownCommand)
     }

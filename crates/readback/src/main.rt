@@ -6,6 +6,7 @@ use std::io::BufReader;
 mod answer;
 mod args;
 mod command;
+mod explains;
 mod keys;
 mod packs;
 mod session;

@@ -15,6 +15,7 @@ use crate::command::Command;
 use crate::command::Mistake;
 use crate::command::Trouble;
 use crate::command::read_command;
+use crate::explains::explain_line;
 use crate::packs::scan_line;
 use crate::packs::view_line;
 use frame::clause::read_clause;
@@ -55,6 +56,7 @@ impl Session {
             Command::Reverse => self.reverse(heap)?,
             Command::Scan(args) => told(heap, scan_line(heap, args))?,
             Command::View(args) => told(heap, view_line(heap, args))?,
+            Command::Explain(args) => told(heap, explain_line(heap, self.frame, args))?,
             Command::Wrong(mistake) => error_line(heap, mistake)?,
         };
         Ok(Some(answer))
