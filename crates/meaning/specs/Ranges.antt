@@ -83,7 +83,7 @@ range-end o CurrentRow xs i = reach o xs (target o CurrentRow (getD xs i None))
 range-end o (Following n) xs i = reach o xs (target o (Following n) (getD xs i None))
 range-end o UnboundedFollowing xs i = length xs
 
--- no line is ordered before the line Preceding it
+-- no line is ordered before the one in front of it
 abbrev pub InOrder : SortOptions → List Line → Type 0
 InOrder o F = (j : ℕ) → j + 1 < length F → before o (getD F (j + 1) None) (getD F j None) ≡ false
 
