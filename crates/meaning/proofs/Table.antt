@@ -50,7 +50,7 @@ take-past (x ∷ xs) ys (suc n) h =
     let e : suc n - suc (length xs) ≡ n - length xs = omega arith in
     rw e (ap (λ zs. x ∷ zs) (take-past xs ys n (omega arith)))
 
-counted-all : (a n : ℕ) → All (λ e. (a ≤ e) × (e < a + n)) (counting a n)
+pub counted-all : (a n : ℕ) → All (λ e. (a ≤ e) × (e < a + n)) (counting a n)
 counted-all a zero = tt
 counted-all a (suc n) = ((omega arith, omega arith), all-weaker (λ e. (a + 1 ≤ e) × (e < a + 1 + n)) (λ e. (a ≤ e) × (e < a + suc n)) (λ e h. (omega arith, omega arith)) (counting (a + 1) n) (counted-all (a + 1) n))
 
@@ -87,6 +87,15 @@ module _ {L : Type 0} (none : L) (same : L → L → Bool) (F : List L) (f : ℕ
   filed-length =
       ap length (kept-same (is-end none same F) (λ e. parts none same F (e - 1)) 1 f (λ e h k. ap (λ b. b || parts none same F (e - 1)) (ne-eqb e (length F) (λ d. omega arith))))
       ∙ breaks-length none same F f
+
+  -- the same, written out
+  pub split-ends : turn-ends none same F ≡ kept-by (is-end none same F) (counting 1 f) ++ map (λ e. f + e) (turn-ends none same (drop f F))
+  unfolding filed left
+  split-ends = ends-split
+
+  pub split-length : length (kept-by (is-end none same F) (counting 1 f)) ≡ turn-of none same F f
+  unfolding filed
+  split-length = filed-length
 
   filed-below : All (λ e. ltb f e ≡ false) filed
   unfolding filed

@@ -107,3 +107,19 @@ Table-view L = (none : L) (same : L → L → Bool) (F : List L) (b : WindowFram
 
 abbrev pub Table-filed : Type 0 → Type 0
 Table-filed L = (none : L) (same : L → L → Bool) (F : List L) (f n r : ℕ) → f ≤ n → kept-by (λ e. ltb n e) (table none same F f r) ≡ table none same F n r
+
+-- the last line that a table's entries hold; f where there is none
+abbrev pub last-held : ℕ → List ℕ → ℕ
+last-held f es = getD es (length es - 1) (f + 1) - 1
+
+-- the ends that a table's entries and the lines from f on give together: the last turn of the table may have gone on
+abbrev pub grown : {L : Type 0} → L → (L → L → Bool) → ℕ → List ℕ → List L → List ℕ
+grown none same f es xs = take (length es - 1) es ++ map (λ e. last-held f es + e) (turn-ends none same (drop (last-held f es - f) xs))
+
+-- where the entries are those of a front of these lines, that is all ends
+abbrev pub Ends-grow : Type 0 → Type 0
+Ends-grow L = (none : L) (same : L → L → Bool) (f k s : ℕ) (xs : List L) → s ≤ length xs → grown none same f (map (λ e. f + e) (take k (turn-ends none same (take s xs)))) xs ≡ map (λ e. f + e) (turn-ends none same xs)
+
+-- the ends of the lines from line n on, counted over all: the end of the turn of n, and the ends of the lines from there on
+abbrev pub Ends-walk : Type 0 → Type 0
+Ends-walk L = (none : L) (same : L → L → Bool) (xs : List L) (n : ℕ) → n < length xs → let e : ℕ = end-of none same xs (turn-of none same xs n) in (n < e) × (e ≤ length xs) × (map (λ k. n + k) (turn-ends none same (drop n xs)) ≡ e ∷ map (λ k. e + k) (turn-ends none same (drop e xs)))

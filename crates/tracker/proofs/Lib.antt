@@ -1,0 +1,10 @@
+pub mod Sifting
+pub mod Walking
+pub mod ByEnds
+pub mod Rising
+pub mod Telling
+pub mod Holding
+pub mod Finding
+pub mod Cut
+pub mod Enough
+pub mod Answering

@@ -1,0 +1,7 @@
+// The tracker of windows over a growing transcript.
+mod asking;
+mod groups;
+mod laws;
+mod reading;
+mod table;
+mod walk;
