@@ -21,9 +21,8 @@ use Rattle.meaning.proofs.Table.{counted-all}
 use Rattle.search.specs.Views.{total-of}
 use Rattle.search.proofs.Seeking.{ranked-length}
 use Rattle.tracker.specs.Tables.{in-front}
-use Rattle.tracker.specs.Walks.{ends-from}
+use Rattle.tracker.specs.Walks.{ends-from, all-ends}
 use Rattle.tracker.specs.Ends.{Held, entry-of, start-by, end-by, needed}
-use Rattle.tracker.specs.Asking.{all-ends}
 use Rattle.tracker.proofs.Rising.{rise-get}
 use Rattle.tracker.proofs.Holding.{is-last, above-first}
 use Rattle.tracker.proofs.Enough.{enough}

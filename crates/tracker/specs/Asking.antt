@@ -1,22 +1,14 @@
 -- What a question under GROUPS answers, and what the table then holds.
 use mathlib.Core.Path.{_≡_}
-use mathlib.Core.List.{List, _++_}
-use Prim.Native.Nat.{ℕ, _-_, _≤_, _<_}
-use lib.IntN.{ℤ}
+use mathlib.Core.List.{List}
+use Prim.Native.Nat.{ℕ, _≤_, _<_}
 use lib.ListN.{length, take}
-use Rattle.std.specs.declared.option.Option.{Option}
 use Rattle.std.specs.declared.result.Result.{Result}
 use Rattle.std.specs.declared.result.Result.the-variants.{Ok, Err}
 use Rattle.frame.specs.Frames.{Frame}
-use Rattle.meaning.specs.Turns.{last-held}
 use Rattle.tracker.specs.declared.asking.Answered.{Answered}
 use Rattle.tracker.specs.Tables.{in-front}
-use Rattle.tracker.specs.Walks.{ends-from}
 use Rattle.tracker.specs.Ends.{entry-of, start-by, end-by, needed}
-
--- all turn ends that the entries in use and a view's lines give: the last turn of the table may have gone on
-abbrev pub all-ends : {K : Type 0} → (K → ℤ) → ℕ → List (Option K) → List ℕ → ℕ → List ℕ
-all-ends rank first xs table live = take (live - 1) table ++ ends-from rank first xs (last-held first (take live table))
 
 -- the entries needed
 abbrev pub entries : Frame → List ℕ → ℕ → ℕ → ℕ

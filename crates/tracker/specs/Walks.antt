@@ -1,21 +1,25 @@
 -- Walks over the ends of turns.
 use mathlib.Core.Path.{_≡_}
 use mathlib.Core.Bool.{Bool, cond, _||_}
-use mathlib.Core.List.{List, [], _∷_, map}
+use mathlib.Core.List.{List, [], _∷_, _++_, map}
 use Prim.Native.Nat.{ℕ, _+_, _-_, min, max, _<_}
 use lib.Dec.{leb, ltb}
 use lib.IntN.{ℤ}
-use lib.ListN.{length, drop, getD}
+use lib.ListN.{length, take, drop, getD}
 use Rattle.std.specs.shelf.Lists.{countBy}
 use Rattle.std.specs.declared.option.Option.{Option}
 use Rattle.std.specs.declared.option.Option.the-variants.{None}
 use Rattle.meaning.specs.Lines.{ranked}
-use Rattle.meaning.specs.Turns.{turn-ends}
+use Rattle.meaning.specs.Turns.{turn-ends, last-held}
 use Rattle.meaning.specs.Clause.{same-line}
 
 -- the ends of the lines from line p on, of a view from line first on
 abbrev pub ends-from : {K : Type 0} → (K → ℤ) → ℕ → List (Option K) → ℕ → List ℕ
 ends-from rank first xs p = map (λ k. p + k) (turn-ends None same-line (drop (p - first) (ranked rank xs)))
+
+-- all turn ends that the entries in use and a view's lines give: the last turn of the table may have gone on
+abbrev pub all-ends : {K : Type 0} → (K → ℤ) → ℕ → List (Option K) → List ℕ → ℕ → List ℕ
+all-ends rank first xs table live = take (live - 1) table ++ ends-from rank first xs (last-held first (take live table))
 
 -- line is not yet passed, or there are not yet so many entries
 abbrev pub goes : ℕ → ℕ → ℕ → ℕ → Bool

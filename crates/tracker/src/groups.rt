@@ -1,12 +1,11 @@
 ghost use mathlib.Core.Path.{_≡_};
-ghost use mathlib.Core.List.{_++_};
 ghost use Prim.Native.Nat.{ℕ, _+_, _-_, min, _≤_, _<_};
 ghost use lib.ListN.{length, take, getD};
 ghost use Rattle.meaning.specs.Turns.{last-held};
 ghost use Rattle.search.specs.Views.{total-of};
 ghost use Rattle.frame.specs.Frames.{framed};
 ghost use Rattle.tracker.specs.Ends.{Held, entry-of, far, needed};
-ghost use Rattle.tracker.specs.Walks.{ends-from, walked};
+ghost use Rattle.tracker.specs.Walks.{ends-from, all-ends, walked};
 use crate::table::entry_past;
 use crate::walk::Reach;
 use crate::walk::walk_on;
@@ -50,7 +49,7 @@ pub(crate) fn find_entry<K: KeyKind, V: Transcript<Key = K>>(
     requires passed { ⌜ ((k : ℕ) → k < at → getD (now table) k 0 ≤ line) ⌝ }
     requires behind { ⌜ at ≤ live - 1 ⌝ }
     ensures reach { λ r. ⌜ (r .0 .entries, r .0 .end) ≡ walked line live (ends-from (K·KeyKind .rank) (V·Transcript .starts (now (view .entry))) (V·Transcript .lines (now (view .entry))) (last-held (V·Transcript .starts (now (view .entry))) (take live (now (table .entry))))) (live - 1) (last-held (V·Transcript .starts (now (view .entry))) (take live (now (table .entry)))) ⌝ }
-    ensures entry { λ r. ⌜ r .1 ≡ entry-of (take (live - 1) (now (table .entry)) ++ ends-from (K·KeyKind .rank) (V·Transcript .starts (now (view .entry))) (V·Transcript .lines (now (view .entry))) (last-held (V·Transcript .starts (now (view .entry))) (take live (now (table .entry))))) line ⌝ }
+    ensures entry { λ r. ⌜ r .1 ≡ entry-of (all-ends (K·KeyKind .rank) (V·Transcript .starts (now (view .entry))) (V·Transcript .lines (now (view .entry))) (now (table .entry)) live) line ⌝ }
 {
     let total = view.total();
     let from = last_held(table, live, view.first(), total);
@@ -84,8 +83,8 @@ pub(crate) fn entries_needed<K: KeyKind, V: Transcript<Key = K>>(
     requires held { ⌜ Held (V·Transcript .starts (now view)) (total-of (V·Transcript .starts (now view)) (V·Transcript .lines (now view))) (take live (now table)) ⌝ }
     requires low { ⌜ V·Transcript .starts (now view) ≤ line ⌝ }
     requires high { ⌜ line < total-of (V·Transcript .starts (now view)) (V·Transcript .lines (now view)) ⌝ }
-    requires found { ⌜ entry ≡ entry-of (take (live - 1) (now table) ++ ends-from (K·KeyKind .rank) (V·Transcript .starts (now view)) (V·Transcript .lines (now view)) (last-held (V·Transcript .starts (now view)) (take live (now table)))) line ⌝ }
-    ensures { λ r. ⌜ r ≡ needed (framed (now (frame .entry)) .start) (framed (now (frame .entry)) .end) (take (live - 1) (now (table .entry)) ++ ends-from (K·KeyKind .rank) (V·Transcript .starts (now (view .entry))) (V·Transcript .lines (now (view .entry))) (last-held (V·Transcript .starts (now (view .entry))) (take live (now (table .entry))))) live entry ⌝ }
+    requires found { ⌜ entry ≡ entry-of (all-ends (K·KeyKind .rank) (V·Transcript .starts (now view)) (V·Transcript .lines (now view)) (now table) live) line ⌝ }
+    ensures { λ r. ⌜ r ≡ needed (framed (now (frame .entry)) .start) (framed (now (frame .entry)) .end) (all-ends (K·KeyKind .rank) (V·Transcript .starts (now (view .entry))) (V·Transcript .lines (now (view .entry))) (now (table .entry)) live) live entry ⌝ }
 {
     let from = last_held(table, live, view.first(), view.total());
     let start = furthest(frame.start_bound(), entry);

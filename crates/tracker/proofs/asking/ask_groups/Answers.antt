@@ -6,9 +6,8 @@ use lib.ListN.{length, take, getD}
 use Rattle.meaning.specs.Turns.{last-held}
 use Rattle.search.specs.Views.{total-of}
 use Rattle.tracker.specs.Tables.{in-front}
-use Rattle.tracker.specs.Walks.{ends-from}
+use Rattle.tracker.specs.Walks.{ends-from, all-ends}
 use Rattle.tracker.specs.Ends.{entry-of, start-by, end-by, needed}
-use Rattle.tracker.specs.Asking.{all-ends}
 use Rattle.tracker.proofs.Finding.{place-low}
 use Rattle.tracker.proofs.Answering.{many, not-more, there, no-fewer, written-small, start-read, end-read, as-written, as-read}
 use Rattle.tracker.proofs.asking.ask_groups.Needs as need
