@@ -8,3 +8,4 @@ pub mod Finding
 pub mod Cut
 pub mod Enough
 pub mod Answering
+pub mod Moving

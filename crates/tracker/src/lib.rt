@@ -3,5 +3,6 @@ mod asking;
 mod groups;
 mod laws;
 mod reading;
+mod slots;
 mod table;
 mod walk;
