@@ -11,13 +11,13 @@ use Rattle.std.specs.Iters.{counting}
 use Rattle.std.specs.shelf.Lists.{kept-by, All}
 use Rattle.std.proofs.shelf.Tests.{cases-lt, cases-bool, ltb-true, ltb-false, lt-ltb, le-ltb}
 use Rattle.std.proofs.shelf.Elements.{all-getD, all-kept-by, all-weaker}
-use Rattle.std.proofs.shelf.Lists.{getD-take, getD-map, getD-default, getD-append-left, drop-all, drop-drop, length-drop, length-take, length-take-le, take-at, take-all, take-take, take-map}
+use Rattle.std.proofs.shelf.Lists.{getD-take, getD-map, getD-default, getD-append-left, drop-all, drop-drop, drop-take, length-drop, length-take, length-take-le, take-at, take-all, take-take, take-map}
 use Rattle.frame.specs.declared.bound.WindowFrameBound.the-variants.{CurrentRow}
-use Rattle.meaning.specs.Turns.{parts, turn-of, is-end, turn-ends, end-of, last-held, grown, Ends-grow, Ends-walk}
+use Rattle.meaning.specs.Turns.{parts, turn-of, is-end, turn-ends, end-of, last-held, table, grown, Ends-grow, Ends-walk, Table-grows}
 use Rattle.meaning.proofs.Counts.{count-le, count-yes, count-no, front-first}
 use Rattle.meaning.proofs.Turns.{front-turns, begins-by, end-take, groups-lawful}
 use Rattle.meaning.proofs.Ends.{kept-same, many-ends, ends-listed}
-use Rattle.meaning.proofs.Table.{counted-all, split-ends, split-length}
+use Rattle.meaning.proofs.Table.{counted-all, split-ends, split-length, table-rest}
 
 -- numbers moved on twice
 pub moved-twice : (f q : ℕ) (es : List ℕ) → map (λ e. f + e) (map (λ e. q + e) es) ≡ map (λ e. f + q + e) es
@@ -215,3 +215,18 @@ module _ {L : Type 0} (none : L) (same : L → L → Bool) where
 pub ends-walk : (L : Type 0) → Ends-walk L
 ends-walk L none same xs n l =
     (ends-past none same xs n l, count-le (λ j. ltb (turn-of none same xs j) (turn-of none same xs n + 1)) (length xs), walks none same xs n l)
+
+pub table-grows : (L : Type 0) → Table-grows L
+table-grows L none same F f s t r h l m v =
+    let k = r + 1 - turn-of none same (take s F) f in
+    let xs = drop f (take t F) in
+    let long : length (take s F) ≡ s = length-take-le s F (omega arith) in
+    let all : length xs ≡ t - f = length-drop f (take t F) ∙ ap (λ n. n - f) (length-take-le t F m) in
+    let a : f + (s - f) ≡ s = omega arith in
+    let b : f + (t - f) ≡ t = omega arith in
+    let cut : (n : ℕ) → f + (n - f) ≡ n → drop f (take n F) ≡ take (n - f) (drop f F) = λ n e. ap (λ j. drop f (take j F)) (sym e) ∙ drop-take f (n - f) F in
+    let front : drop f (take s F) ≡ take (s - f) xs =
+    cut s a ∙ sym (take-take (s - f) (t - f) (drop f F) (omega arith)) ∙ ap (take (s - f)) (sym (cut t b)) in
+    let held : table none same (take s F) f r ≡ map (λ e. f + e) (take k (turn-ends none same (take (s - f) xs))) =
+    table-rest none same (take s F) f (omega arith) r k (omega arith) ∙ ap (λ ys. map (λ e. f + e) (take k (turn-ends none same ys))) front in
+    ap (λ es. grown none same f es xs) held ∙ ends-grow L none same f k (s - f) xs (omega arith)

@@ -109,7 +109,7 @@ module _ {L : Type 0} (none : L) (same : L → L → Bool) (F : List L) (f : ℕ
       all-map (λ e. ltb f e ≡ true) (λ e. f + e) (turn-ends none same (drop f F))
       (all-weaker Q (λ e. ltb f (f + e) ≡ true) (λ e h. lt-ltb _ _ (omega arith)) _ (all-kept-by (is-end none same (drop f F)) Q (counting 1 n) (counted-all 1 n)))
 
-  table-rest : (r k : ℕ) → r + 1 ≡ turn-of none same F f + k → table none same F f r ≡ map (λ e. f + e) (take k (turn-ends none same (drop f F)))
+  pub table-rest : (r k : ℕ) → r + 1 ≡ turn-of none same F f + k → table none same F f r ≡ map (λ e. f + e) (take k (turn-ends none same (drop f F)))
   unfolding left
   table-rest r k h =
       let n = filed-length in

@@ -123,3 +123,7 @@ Ends-grow L = (none : L) (same : L → L → Bool) (f k s : ℕ) (xs : List L) �
 -- the ends of the lines from line n on, counted over all: the end of the turn of n, and the ends of the lines from there on
 abbrev pub Ends-walk : Type 0 → Type 0
 Ends-walk L = (none : L) (same : L → L → Bool) (xs : List L) (n : ℕ) → n < length xs → let e : ℕ = end-of none same xs (turn-of none same xs n) in (n < e) × (e ≤ length xs) × (map (λ k. n + k) (turn-ends none same (drop n xs)) ≡ e ∷ map (λ k. e + k) (turn-ends none same (drop e xs)))
+
+-- so the table of an earlier total, with the lines now shown, gives all their ends
+abbrev pub Table-grows : Type 0 → Type 0
+Table-grows L = (none : L) (same : L → L → Bool) (F : List L) (f s t r : ℕ) → f < s → s ≤ t → t ≤ length F → turn-of none same (take s F) f ≤ r + 1 → grown none same f (table none same (take s F) f r) (drop f (take t F)) ≡ map (λ e. f + e) (turn-ends none same (drop f (take t F)))

@@ -2,7 +2,7 @@ ghost use Rattle.meaning.specs.Laws.{Same-decides, Clause-lawful, Clause-monot
 ghost use Rattle.meaning.specs.Lines.{Line};
 ghost use Rattle.meaning.specs.Ranges.{Range-fronts, Range-walked, Range-mirror};
 ghost use Rattle.meaning.specs.Samples.{Samples-hold, Tables-hold};
-ghost use Rattle.meaning.specs.Turns.{One-turn, Ends-listed, Ends-of-rest, Ends-of-front, Reached-monotone, Table-view, Table-filed, Ends-grow, Ends-walk};
+ghost use Rattle.meaning.specs.Turns.{One-turn, Ends-listed, Ends-of-rest, Ends-of-front, Reached-monotone, Table-view, Table-filed, Ends-grow, Ends-walk, Table-grows};
 
 // The sample windows, and the turn tables of a short sitting.
 pub fn samples() -> u8
@@ -23,6 +23,7 @@ pub fn turns() -> u8
     ensures filed { λ _. ⌜ Table-filed Line ⌝ }
     ensures grow { λ _. ⌜ Ends-grow Line ⌝ }
     ensures walk { λ _. ⌜ Ends-walk Line ⌝ }
+    ensures grows { λ _. ⌜ Table-grows Line ⌝ }
 {
     0
 }
