@@ -24,7 +24,7 @@ impl WindowFrame {
         self.end_bound
     }
 
-    // Whether no line after the current one can change the window.
+    // Whether the window's end waits for no line behind the current one.
     pub fn is_causal(&self) -> bool
         ensures { λ r. ⌜ r ≡ causal (framed (now (self .entry)) .units) (framed (now (self .entry)) .end) ⌝ }
     {

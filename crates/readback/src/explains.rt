@@ -54,7 +54,7 @@ fn read_keys<K: ScriptKey>(heap: Global, args: &mut Args) -> Result<Vec<Option<K
     Ok(keys)
 }
 
-// Whether a window can be told: what is in the way, if it cannot.
+// The window of a line; under RANGE only of lines in order.
 fn window_over<K: ScriptKey>(
     heap: Global,
     frame: &WindowFrame,

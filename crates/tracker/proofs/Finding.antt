@@ -19,9 +19,9 @@ use Rattle.meaning.specs.Clause.{same-line}
 use Rattle.search.specs.Views.{total-of}
 use Rattle.search.proofs.Seeking.{ranked-length}
 use Rattle.tracker.specs.Walks.{ends-from, walked}
-use Rattle.tracker.specs.Ends.{Held, entry-of, told, far, needed}
+use Rattle.tracker.specs.Ends.{Held, entry-of, far, needed}
 use Rattle.tracker.proofs.Rising.{ends-rise}
-use Rattle.tracker.proofs.Telling.{both, at-most, told-past, told-held, told-entry, asked, is-needed, wants}
+use Rattle.tracker.proofs.Telling.{told, both, at-most, told-past, told-held, told-entry, asked, is-needed, wants}
 use Rattle.tracker.proofs.Holding.{none-in-use, is-last, above-first, long-enough, has-entry}
 
 module _ {K : Type 0} (rank : K → ℤ) (first : ℕ) (xs : List (Option K)) (table : List ℕ) (live : ℕ) (room : live ≤ length table) (held : Held first (total-of first xs) (take live table)) where

@@ -15,8 +15,15 @@ use Rattle.frame.specs.declared.bound.WindowFrameBound.{WindowFrameBound}
 use Rattle.frame.specs.declared.bound.WindowFrameBound.the-variants.{UnboundedPreceding, Preceding, CurrentRow, Following, UnboundedFollowing}
 use Rattle.meaning.specs.Turns.{last-held}
 use Rattle.tracker.specs.Walks.{walked, Rise}
-use Rattle.tracker.specs.Ends.{entry-of, told, reach-by, far, needed, Told-entry}
+use Rattle.tracker.specs.Ends.{entry-of, reach-by, far, needed}
 use Rattle.tracker.proofs.Rising.{counted-in, counted-out, none-below, amount, walked-counts}
+
+-- the entry of a line's turn, told from a walk over the ends past the last line held: by where the walk stands if it has passed the table's entries, else among those
+abbrev pub told : ℕ → List ℕ → ℕ → ℕ
+told line es k = cond (ltb (length es) k) (k - 1) (entry-of (take (length es - 1) es) line)
+
+abbrev Told-entry : Type 0
+Told-entry = (line first : ℕ) (es qs : List ℕ) → first ≤ line → Rise first es → Rise (last-held first es) qs → entry-of qs line < length qs → told line es (walked line (length es) qs (length es - 1) (last-held first es) .0) ≡ entry-of (take (length es - 1) es ++ qs) line
 
 -- numbers that rise are below the last of them
 pub rise-last : (e d : ℕ) (es : List ℕ) → Rise e es → 0 < length es → e < getD es (length es - 1) d

@@ -1,7 +1,7 @@
 -- GROUPS windows read off a list of turn ends, of which the first turn begins at line first or before and the last ends at total.
 use mathlib.Core.Path.{_≡_}
 use mathlib.Core.Bool.{Bool, cond}
-use mathlib.Core.List.{List, _∷_, _++_, map}
+use mathlib.Core.List.{List, _∷_, map}
 use Prim.Native.Nat.{ℕ, _+_, _-_, min, max, _≤_, _<_}
 use lib.Dec.{leb, ltb}
 use lib.ListN.{length, take, getD}
@@ -9,7 +9,7 @@ use Rattle.std.specs.shelf.Lists.{countBy}
 use Rattle.frame.specs.declared.bound.WindowFrameBound.{WindowFrameBound}
 use Rattle.frame.specs.declared.bound.WindowFrameBound.the-variants.{UnboundedPreceding, Preceding, CurrentRow, Following, UnboundedFollowing}
 use Rattle.meaning.specs.Turns.{turn-of, turn-ends, groups-start, groups-end, reached, last-held}
-use Rattle.tracker.specs.Walks.{walked, Rise}
+use Rattle.tracker.specs.Walks.{Rise}
 
 -- the entry of a line's turn
 abbrev pub entry-of : List ℕ → ℕ → ℕ
@@ -60,13 +60,6 @@ needed b e es live g = max live (max (reach-by b es g) (reach-by e es g) + 1)
 -- off the ends of lines from line first on, these are the line's turn, its window and its reach over those lines
 abbrev pub Read-off : Type 0 → Type 0
 Read-off L = (none : L) (same : L → L → Bool) (first : ℕ) (xs : List L) (i : ℕ) → i < length xs → let es : List ℕ = map (λ e. first + e) (turn-ends none same xs) in (entry-of es (first + i) ≡ turn-of none same xs i) × ((b : WindowFrameBound) → (start-by b first (first + length xs) es (turn-of none same xs i) ≡ first + groups-start none same b xs i) × (end-by b first (first + length xs) es (turn-of none same xs i) ≡ first + groups-end none same b xs i) × (reach-by b es (turn-of none same xs i) ≡ reached none same b xs i))
-
--- the entry of a line's turn, told from a walk over the ends past the last line held: by where the walk stands if it has passed the table's entries, else among those
-abbrev pub told : ℕ → List ℕ → ℕ → ℕ
-told line es k = cond (ltb (length es) k) (k - 1) (entry-of (take (length es - 1) es) line)
-
-abbrev pub Told-entry : Type 0
-Told-entry = (line first : ℕ) (es qs : List ℕ) → first ≤ line → Rise first es → Rise (last-held first es) qs → entry-of qs line < length qs → told line es (walked line (length es) qs (length es - 1) (last-held first es) .0) ≡ entry-of (take (length es - 1) es ++ qs) line
 
 -- entries that a table can hold: they rise past first, and hold no line from total on
 pub record Held (first total : ℕ) (es : List ℕ) : Type 0 where

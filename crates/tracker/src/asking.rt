@@ -44,7 +44,7 @@ pub(crate) fn ask_groups<K: KeyKind, V: Transcript<Key = K>>(
     ensures { λ r. ⌜ Asks (framed (now (frame .entry))) (V·Transcript .starts (now (view .entry))) (total-of (V·Transcript .starts (now (view .entry))) (V·Transcript .lines (now (view .entry)))) (all-ends (K·KeyKind .rank) (V·Transcript .starts (now (view .entry))) (V·Transcript .lines (now (view .entry))) (now (table .entry)) live) live line (now (table .entry)) r (now (table .exit)) ⌝ }
 {
     let (first, total) = (view.first(), view.total());
-    let (_, entry) = find_entry(table, live, at, view, line);
+    let entry = find_entry(table, live, at, view, line);
     let needed = entries_needed(table, live, view, line, entry, frame);
     if needed > table.len() {
         return Err(needed);

@@ -5,7 +5,7 @@ ghost use Rattle.meaning.specs.Turns.{last-held};
 ghost use Rattle.search.specs.Views.{total-of};
 ghost use Rattle.frame.specs.Frames.{framed};
 ghost use Rattle.tracker.specs.Ends.{Held, entry-of, far, needed};
-ghost use Rattle.tracker.specs.Walks.{ends-from, all-ends, walked};
+ghost use Rattle.tracker.specs.Walks.{all-ends};
 use crate::table::entry_past;
 use crate::walk::Reach;
 use crate::walk::walk_on;
@@ -34,30 +34,29 @@ pub(crate) fn last_held(table: &[u64], live: usize, first: u32, total: u32) -> R
     }
 }
 
-// The walk past `line`, and the entry of its turn. No entry before `at` lies past the line.
+// The entry of the turn of `line`. No entry before `at` lies past the line.
 pub(crate) fn find_entry<K: KeyKind, V: Transcript<Key = K>>(
     table: &[u64],
     live: usize,
     at: usize,
     view: &V,
     line: u32,
-) -> (Reach, usize)
+) -> usize
     requires room { ⌜ live ≤ length (now table) ⌝ }
     requires held { ⌜ Held (V·Transcript .starts (now view)) (total-of (V·Transcript .starts (now view)) (V·Transcript .lines (now view))) (take live (now table)) ⌝ }
     requires low { ⌜ V·Transcript .starts (now view) ≤ line ⌝ }
     requires high { ⌜ line < total-of (V·Transcript .starts (now view)) (V·Transcript .lines (now view)) ⌝ }
     requires passed { ⌜ ((k : ℕ) → k < at → getD (now table) k 0 ≤ line) ⌝ }
     requires behind { ⌜ at ≤ live - 1 ⌝ }
-    ensures reach { λ r. ⌜ (r .0 .entries, r .0 .end) ≡ walked line live (ends-from (K·KeyKind .rank) (V·Transcript .starts (now (view .entry))) (V·Transcript .lines (now (view .entry))) (last-held (V·Transcript .starts (now (view .entry))) (take live (now (table .entry))))) (live - 1) (last-held (V·Transcript .starts (now (view .entry))) (take live (now (table .entry)))) ⌝ }
-    ensures entry { λ r. ⌜ r .1 ≡ entry-of (all-ends (K·KeyKind .rank) (V·Transcript .starts (now (view .entry))) (V·Transcript .lines (now (view .entry))) (now (table .entry)) live) line ⌝ }
+    ensures { λ r. ⌜ r ≡ entry-of (all-ends (K·KeyKind .rank) (V·Transcript .starts (now (view .entry))) (V·Transcript .lines (now (view .entry))) (now (table .entry)) live) line ⌝ }
 {
     let total = view.total();
     let from = last_held(table, live, view.first(), total);
     let reach = walk_on(view, from, line, live);
     if reach.entries > live {
-        return (reach, reach.entries - 1);
+        return reach.entries - 1;
     }
-    (reach, entry_past(table, at, from.entries, line))
+    entry_past(table, at, from.entries, line)
 }
 
 // How many entries reach as far as a bound does, if there are so many turns.

@@ -1,5 +1,5 @@
 ghost use Rattle.meaning.specs.Lines.{Line};
-ghost use Rattle.tracker.specs.Ends.{Read-off, Told-entry, Enough};
+ghost use Rattle.tracker.specs.Ends.{Read-off, Enough};
 ghost use Rattle.tracker.specs.Walks.{Ends-rise, Walked-counts};
 
 // GROUPS windows, read off the ends of turns.
@@ -14,7 +14,6 @@ pub(crate) fn windows_by_ends() -> u8
 pub(crate) fn walks() -> u8
     ensures rise { λ _. ⌜ Ends-rise Line ⌝ }
     ensures counts { λ _. ⌜ Walked-counts ⌝ }
-    ensures told { λ _. ⌜ Told-entry ⌝ }
 {
     0
 }

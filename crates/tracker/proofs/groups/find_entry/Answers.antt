@@ -40,10 +40,7 @@ returns-then-reach-live g c =
     let w = c .walk-on-reach .ensures ∙ from-place rank first xs line live _ _ (live - 1) p (c .last-held-from .ensures .entries) e in
     let k : c .walk-on-reach .result .entries ≡ walked line live (ends-from rank first xs p) (live - 1) p .0 = ap (λ t. t .0) w in
     let past : live < walked line live (ends-from rank first xs p) (live - 1) p .0 = omega (arith, k, c .if-reach-live .taken) in
-    record {
-      reach = w;
-      entry = ap (λ i. i - 1) k ∙ found-past rank first xs table live (c .pre .room) (c .pre .held) line (c .pre .low) (c .pre .high) past;
-    }
+    ap (λ i. i - 1) k ∙ found-past rank first xs table live (c .pre .room) (c .pre .held) line (c .pre .low) (c .pre .high) past
 
 pub returns : need.returns
 returns g c =
@@ -61,11 +58,7 @@ returns g c =
     let P : List ℕ → Type 0 = λ es. Rise first es in
     let rises : Rise first (take (live - 1) table) = subst P (take-take (live - 1) live table (omega arith)) (rise-take first (live - 1) (take live table) (c .pre .held .rises)) in
     let at = walk-entry table first (live - 1) (c .args .at) line (omega (arith, c .pre .room)) rises (c .pre .behind) (c .pre .passed) in
-    record {
-      reach = w;
-      entry =
-          c .entry-past .ensures
-          ∙ ap (λ j. walk (λ k. leb (getD table k 0) line) (c .args .at) (j - c .args .at)) (c .last-held-from .ensures .entries)
-          ∙ at
-          ∙ found-held rank first xs table live (c .pre .room) (c .pre .held) line (c .pre .low) (c .pre .high) held;
-    }
+    c .entry-past .ensures
+    ∙ ap (λ j. walk (λ k. leb (getD table k 0) line) (c .args .at) (j - c .args .at)) (c .last-held-from .ensures .entries)
+    ∙ at
+    ∙ found-held rank first xs table live (c .pre .room) (c .pre .held) line (c .pre .low) (c .pre .high) held
