@@ -1,5 +1,7 @@
 // bench: times the library on transcripts that it makes in memory.
 // It prints what was found to standard output, and nanoseconds to standard error.
+#![tactic(auto)]
+
 mod lines;
 mod runs;
 

@@ -1,4 +1,6 @@
 // Frames of window clauses: refusals, units and bounds, frames, and the reader of clause text.
+#![tactic(auto)]
+
 pub mod bound;
 pub mod clause;
 mod errors;

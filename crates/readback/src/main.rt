@@ -1,4 +1,6 @@
 // readback: reads commands from standard input, one to a line, and answers each before it reads the next.
+#![tactic(auto)]
+
 mod answer;
 mod args;
 mod command;

@@ -1,4 +1,6 @@
 // Searches over a transcript view, from which windows are reckoned.
+#![tactic(auto)]
+
 pub mod explain;
 pub mod groups;
 pub mod opening;

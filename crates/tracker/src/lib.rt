@@ -1,4 +1,6 @@
 // The tracker of windows over a growing transcript.
+#![tactic(auto)]
+
 mod asking;
 mod calls;
 mod checks;

@@ -8,7 +8,7 @@ returns-in-err-n c =
 
 pub loop-b-preserved : goal.loop-b-preserved
 loop-b-preserved c =
-    let s = step c.loop-b.n c.in-ok-n.n c.loop-b.b-index c.args.text.now (omega arith) (sym c.with-digit.ensures ∙ c.in-ok-n.was) in
+    let s = step c.loop-b.n c.in_ok-n.n c.loop-b.b-index c.args.text.now (omega arith) (sym c.with_digit.ensures ∙ c.in_ok-n.was) in
     (s.0 ∙ c.loop-b.invariant.0, s.1 ∙ c.loop-b.invariant.1, s.2)
 
 pub returns : goal.returns

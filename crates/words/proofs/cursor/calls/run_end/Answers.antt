@@ -5,7 +5,7 @@ use Rattle.words.proofs.cursor.calls.run_end.Goals as goal
 
 pub loop-at-preserved : goal.loop-at-preserved
 loop-at-preserved c =
-    let e = prefix_len-drop_yes (like c.args.space) c.args.text.now c.loop-at.at 0 c.loop-at-test.true (sym c.if-is-like.ensures) in
+    let e = prefix_len-drop_yes (like c.args.space) c.args.text.now c.loop-at.at 0 c.loop-at-test.true (sym c.if-is_like.ensures) in
     (omega arith, omega arith)
 
 pub returns-else-is-like : goal.returns-else-is-like
