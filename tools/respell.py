@@ -16,6 +16,11 @@ import sys
 
 NAME = r"[A-Za-z_][\w'\u2032-]*"
 DECLARED = re.compile(rf"^[ \t]*(?:abbrev |pub |data |record |unfoldable )*({NAME}) :(?![:=])", re.M)
+# a type with parameters, and a name that a file gives to what it imports
+TYPED = re.compile(rf"^[ \t]*(?:abbrev )?pub (?:data |record )?({NAME})[ \n]*[({{]", re.M)
+ALIAS = re.compile(rf"\bas ({NAME})[,}}]")
+# names that proofs bind inside a term
+BOUND = set("at-e at-q at-s at-t at-end in-T in-range is-e is-q is-s is-t now-is short-is total-is ws-is".split())
 # the goals that an answer file states: names that Rattle makes
 MADE = re.compile(rf"^[ \t]*(?:abbrev |pub )*({NAME}) : (?:goal|given|need|needs)\b", re.M)
 TAKEN = re.compile(r"^(?:ghost )?use ([^\s;{]+)\.\{([^}]*)\}", re.M)
@@ -43,10 +48,12 @@ def main(arguments):
     for path in files("."):
         with open(path, encoding="utf-8") as f:
             texts[path] = f.read()
-    declared, library = set(), set()
+    declared, library = set(BOUND), set()
     for path, text in texts.items():
         if path.endswith(".antt"):
-            declared |= {n for n in DECLARED.findall(text) if "-" in n} - set(MADE.findall(text))
+            found = set(DECLARED.findall(text)) | set(TYPED.findall(text))
+            declared |= {n for n in found if "-" in n} - set(MADE.findall(text))
+        declared |= {n for n in ALIAS.findall(text) if "-" in n}
         for module, names in TAKEN.findall(text):
             if not any(module.startswith(f"Rattle.{c}.") for c in crates):
                 library |= {n.split()[0] for n in names.split(",") if n.strip()}

@@ -213,10 +213,10 @@ extent_inv r x e =
     let p = bound_inv (later r) s.0 s.1 in
     let a = joint_inv s.0.1 j.0 j.1 in
     let q = bound_inv j.0 t.0 t.1 in
-    let ws-is : r.words ≡ k.0 ∷ (p.0 ∷ (p.1 ∷ (a.0 ∷ (q.0 ∷ (q.1 ∷ t.0.1.words))))) =
+    let ws_is : r.words ≡ k.0 ∷ (p.0 ∷ (p.1 ∷ (a.0 ∷ (q.0 ∷ (q.1 ∷ t.0.1.words))))) =
     k.1 ∙ ap (λ (l : List Placed). k.0 ∷ l) (p.2 ∙ ap (λ (l : List Placed). p.0 ∷ (p.1 ∷ l)) (a.1 ∙ ap (λ (l : List Placed). a.0 ∷ l) q.2)) in
     subst (λ (y : Said × Said × Rest). Spans r.words y.0.bound y.1.bound y.2.words) (ok_same t.2)
-    (subst (λ (l : List Placed). Spans l s.0.0.bound t.0.0.bound t.0.1.words) (sym ws-is) (two k.2 p.3 a.2 q.3)))
+    (subst (λ (l : List Placed). Spans l s.0.0.bound t.0.0.bound t.0.1.words) (sym ws_is) (two k.2 p.3 a.2 q.3)))
     (λ (h : (is Between (first r) ≡ false) × (both to_current (λ (y : Refused). y) (bound (first r) (later r)) ≡ Ok x)).
     let s = both_ok to_current (λ (y : Refused). y) (bound (first r) (later r)) x h.1 in
     let p = bound_inv r s.0 s.1 in

@@ -118,9 +118,9 @@ ended p = ([], none, refl)
 
 end_holds : (b : WindowFrameBound) → offset b < 2 ^ 64 → Holds (codes " AND " ++ bound_text b) (Begins (codes "AND") (Bounds b Ended))
 end_holds b h =
-    let at-end : Holds (bound_text b) (Bounds b Ended) = subst (λ (l : List ℕ). Holds l (Bounds b Ended)) (append-nil (bound_text b)) (bound_holds b [] Ended h tt ended) in
+    let at_end : Holds (bound_text b) (Bounds b Ended) = subst (λ (l : List ℕ). Holds l (Bounds b Ended)) (append-nil (bound_text b)) (bound_holds b [] Ended h tt ended) in
     gap_holds (codes "AND " ++ bound_text b) (Begins (codes "AND") (Bounds b Ended))
-    (word_holds (codes "AND") (32 ∷ bound_text b) (Bounds b Ended) (proper _ refl) refl (gap_holds (bound_text b) (Bounds b Ended) at-end))
+    (word_holds (codes "AND") (32 ∷ bound_text b) (Bounds b Ended) (proper _ refl) refl (gap_holds (bound_text b) (Bounds b Ended) at_end))
 
 abbrev Framed : Frame → List Placed → Type 0
 Framed f = Begins (unit_text f.units) (Begins (codes "BETWEEN") (Bounds f.start (Begins (codes "AND") (Bounds f.end Ended))))

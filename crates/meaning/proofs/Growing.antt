@@ -109,13 +109,13 @@ module _ {L : Type 0} (none : L) (same : L → L → Bool) where
       let long : length es ≡ length T = length-map T (λ e. f + e) in
       let fits = length-take k E in
       let within : r < length E = omega arith in
-      let in-T : r < length T = omega arith in
+      let in_t : r < length T = omega arith in
       let read : get_or T r 0 ≡ get_or E r 0 = get_or-take k E r 0 (omega arith) in
       let q = get_or E r 0 - 1 in
       let above : 0 < get_or E r 0 = All-get_or (λ e. 0 < e) E r 0 within (ends_above (take s xs)) in
       let is : get_or E r 0 ≡ q + 1 = omega arith in
       let last : last_held f es ≡ f + q =
-      ap (λ n. get_or es (n - 1) (f + 1) - 1) long ∙ ap (λ n. n - 1) (get_or-map (λ e. f + e) T r 0 (f + 1) in-T) ∙ omega arith in
+      ap (λ n. get_or es (n - 1) (f + 1) - 1) long ∙ ap (λ n. n - 1) (get_or-map (λ e. f + e) T r 0 (f + 1) in_t) ∙ omega arith in
       let rest : last_held f es - f ≡ q = omega arith in
       let front : take (length es - 1) es ≡ map (λ e. f + e) (take r E) =
       ap (λ n. take (n - 1) es) long ∙ take-map (λ e. f + e) r T ∙ ap (map (λ e. f + e)) (take-take r k E (omega arith)) in

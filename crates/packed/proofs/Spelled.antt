@@ -105,14 +105,14 @@ line_read x bs rest l =
     let t = l.text_bytes in
     let apart : (s ++ (q ++ (e ++ t))) ++ rest ≡ s ++ (q ++ (e ++ (t ++ rest))) =
     append_assoc s (q ++ (e ++ t)) rest ∙ ap (λ (z : List ℕ). s ++ z) (append_assoc q (e ++ t) rest ∙ ap (λ (z : List ℕ). q ++ z) (append_assoc e t rest)) in
-    let is-s : Ok (x.speaker, q ++ (e ++ (t ++ rest))) ≡ field (stands m 1) 1 (s ++ (q ++ (e ++ (t ++ rest)))) = sym (ap (λ (z : Bool). field z 1 (s ++ (q ++ (e ++ (t ++ rest))))) b.1 ∙ field_read (q ++ (e ++ (t ++ rest))) l.speaker) in
-    let is-q : Ok (x.question, e ++ (t ++ rest)) ≡ field (stands m 2) 4 (q ++ (e ++ (t ++ rest))) = sym (ap (λ (z : Bool). field z 4 (q ++ (e ++ (t ++ rest)))) b.2 ∙ field_read (e ++ (t ++ rest)) l.question) in
-    let is-e : Ok (x.elapsed, t ++ rest) ≡ field (stands m 4) 8 (e ++ (t ++ rest)) = sym (ap (λ (z : Bool). field z 8 (e ++ (t ++ rest))) b.3 ∙ field_read (t ++ rest) l.elapsed) in
-    let is-t : Ok (x.text, rest) ≡ text_of (stands m 8) (t ++ rest) = sym (ap (λ (z : Bool). text_of z (t ++ rest)) b.4 ∙ text_read rest l.text) in
+    let is_s : Ok (x.speaker, q ++ (e ++ (t ++ rest))) ≡ field (stands m 1) 1 (s ++ (q ++ (e ++ (t ++ rest)))) = sym (ap (λ (z : Bool). field z 1 (s ++ (q ++ (e ++ (t ++ rest))))) b.1 ∙ field_read (q ++ (e ++ (t ++ rest))) l.speaker) in
+    let is_q : Ok (x.question, e ++ (t ++ rest)) ≡ field (stands m 2) 4 (q ++ (e ++ (t ++ rest))) = sym (ap (λ (z : Bool). field z 4 (q ++ (e ++ (t ++ rest)))) b.2 ∙ field_read (e ++ (t ++ rest)) l.question) in
+    let is_e : Ok (x.elapsed, t ++ rest) ≡ field (stands m 4) 8 (e ++ (t ++ rest)) = sym (ap (λ (z : Bool). field z 8 (e ++ (t ++ rest))) b.3 ∙ field_read (t ++ rest) l.elapsed) in
+    let is_t : Ok (x.text, rest) ≡ text_of (stands m 8) (t ++ rest) = sym (ap (λ (z : Bool). text_of z (t ++ rest)) b.4 ∙ text_read rest l.text) in
     ap (λ (z : List ℕ). line_of (z ++ rest)) l.whole
     ∙ ap (λ (z : Bool). cond z (Err UnknownBits) (tail_line m ((s ++ (q ++ (e ++ t))) ++ rest))) b.0
     ∙ ap (tail_line m) apart
-    ∙ whole m (s ++ (q ++ (e ++ (t ++ rest)))) x.speaker (q ++ (e ++ (t ++ rest))) is-s x.question (e ++ (t ++ rest)) is-q x.elapsed (t ++ rest) is-e x.text rest is-t
+    ∙ whole m (s ++ (q ++ (e ++ (t ++ rest)))) x.speaker (q ++ (e ++ (t ++ rest))) is_s x.question (e ++ (t ++ rest)) is_q x.elapsed (t ++ rest) is_e x.text rest is_t
 
 -- what was read, taken apart
 cond_in : {A : Type 0} (b : Bool) (x y : A) → ◌≡◌ {A = Result A LineFault} (Ok y) (cond b (Ok x) (Err CutShort)) → (b ≡ true) × (x ≡ y)

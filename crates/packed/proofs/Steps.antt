@@ -26,12 +26,12 @@ pub opened : (bs : List ℕ) → 1 ≤ length bs → stands (get_or bs 0 0) 240 
 opened [] h z = absurd (omega arith)
 opened (m ∷ bs) h z = rw (z, take_rest (m ∷ bs) 1)
 
-module _ (m : ℕ) (bs : List ℕ) (s : Option ℕ) (b1 : List ℕ) (at-s : Ok (s, b1) ≡ field (stands m 1) 1 bs) (q : Option ℕ) (b2 : List ℕ) (at-q : Ok (q, b2) ≡ field (stands m 2) 4 b1) where
+module _ (m : ℕ) (bs : List ℕ) (s : Option ℕ) (b1 : List ℕ) (at_s : Ok (s, b1) ≡ field (stands m 1) 1 bs) (q : Option ℕ) (b2 : List ℕ) (at_q : Ok (q, b2) ≡ field (stands m 2) 4 b1) where
   pub elapsed_out : (y : LineFault) → Err y ≡ field (stands m 4) 8 b2 → tail_line m bs ≡ Err y
-  elapsed_out y e = rw (← at-s, ← at-q, ← e)
+  elapsed_out y e = rw (← at_s, ← at_q, ← e)
 
   pub text_out : (e : Option ℕ) (b3 : List ℕ) → Ok (e, b3) ≡ field (stands m 4) 8 b2 → (y : LineFault) → Err y ≡ text_of (stands m 8) b3 → tail_line m bs ≡ Err y
-  text_out e b3 at-e y at_y = rw (← at-s, ← at-q, ← at-e, ← at_y)
+  text_out e b3 at_e y at_y = rw (← at_s, ← at_q, ← at_e, ← at_y)
 
   pub whole : (e : Option ℕ) (b3 : List ℕ) → Ok (e, b3) ≡ field (stands m 4) 8 b2 → (t : Option (List ℕ)) (b4 : List ℕ) → Ok (t, b4) ≡ text_of (stands m 8) b3 → tail_line m bs ≡ Ok (record { speaker = s; question = q; elapsed = e; text = t }, b4)
-  whole e b3 at-e t b4 at-t = rw (← at-s, ← at-q, ← at-e, ← at-t)
+  whole e b3 at_e t b4 at_t = rw (← at_s, ← at_q, ← at_e, ← at_t)

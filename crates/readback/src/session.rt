@@ -1,6 +1,6 @@
 ghost use Rattle.std.specs.Prelude.{◌≡◌, IfOk, None, string_bytes};
 ghost use Rattle.std.specs.Option.{option_map};
-ghost use Rattle.frame.specs.Clause.{clause as clause-of-text};
+ghost use Rattle.frame.specs.Clause.{clause as clause_of_text};
 ghost use Rattle.frame.specs.Frames.{framed, reversed};
 ghost use Rattle.readback.specs.Commands.{command};
 ghost use Rattle.readback.specs.Lines.{clause_line};
@@ -64,8 +64,8 @@ impl Session {
 
     // Reads a clause; if it is a frame, that becomes the current one.
     fn clause(&mut self, heap: Global, text: &[u8]) -> Result<String, AllocError>
-        ensures reply { IfOk result (λ s. string_bytes s ≡ clause_line (clause-of-text text.now)) }
-        ensures state { current self.new ≡ taken (current self.old) (clause-of-text text.now) }
+        ensures reply { IfOk result (λ s. string_bytes s ≡ clause_line (clause_of_text text.now)) }
+        ensures state { current self.new ≡ taken (current self.old) (clause_of_text text.now) }
     {
         let reading = read_clause(text);
         if let Ok(frame) = reading.frame {

@@ -23,7 +23,7 @@ module _ {K : Type 0} (rank : K → ℤ) (first : ℕ) (xs : List (Option K)) wh
   turn_begins k = first + first_of None same_line (ranked rank xs) k
 
   -- the end of the run that holds line n, if that is held; n itself past the last line
-  pub record Run-end (n r : ℕ) : Type 0 where
+  pub record RunEnd (n r : ℕ) : Type 0 where
     pub inside : first ≤ n → n < total_of first xs → r ≡ first + end_of None same_line (ranked rank xs) (turn_at n)
     pub past : total_of first xs ≤ n → r ≡ n
 

@@ -1,5 +1,5 @@
 ghost use Rattle.std.specs.Prelude.{◌≡◌, ◌+◌, ◌-◌, ◌<◌, ◌≤◌, cond, length};
-ghost use Rattle.search.specs.Views.{total_of, turn_at, turn_begins, Run-end};
+ghost use Rattle.search.specs.Views.{total_of, turn_at, turn_begins, RunEnd};
 
 use crate::walks::{Alike, LineTest, Parts, count_passing, first_failing};
 use transcript::keys::KeyKind;
@@ -7,7 +7,7 @@ use transcript::view::Transcript;
 
 // The end of the run of like lines that holds line `n`; `n` itself where it is past the last line.
 pub fn run_end<K: KeyKind, V: Transcript<Key = K>>(view: &V, n: u32) -> u32
-    ensures { Run-end K.KeyKind.rank (V.Transcript.starts view.now) (V.Transcript.lines view.now) n result }
+    ensures { RunEnd K.KeyKind.rank (V.Transcript.starts view.now) (V.Transcript.lines view.now) n result }
 {
     let total = view.total();
     if n >= total {

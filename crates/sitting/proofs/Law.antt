@@ -22,7 +22,7 @@ use Rattle.sitting.specs.State.{Grant, State, none_yet, fresh}
 use Rattle.sitting.specs.Rules.{refuse, fault, reach, entries, short, or_else, answered, settled, staying, needed, due, granted, answer, moved_on, next, filing, file_fault, filed_to}
 use Rattle.sitting.specs.Tracks.{Stretch, Fresh, Follows, Tracks, at_first, since}
 use Rattle.sitting.specs.Calls.{Window, Filing, Passed}
-use Rattle.sitting.specs.Sittings.{Event, asked, put, Step, Sitting, opened, called, last_grant, filed_count, WhenGranted, EachGranted, AllStretches, furthest, wanted, OnlyShort, Question-due, EachDue, NotBefore, Same-lines, Upheld, SittingLaw}
+use Rattle.sitting.specs.Sittings.{Event, asked, put, Step, Sitting, opened, called, last_grant, filed_count, WhenGranted, EachGranted, AllStretches, furthest, wanted, OnlyShort, QuestionDue, EachDue, NotBefore, SameLines, Upheld, SittingLaw}
 use Rattle.sitting.proofs.Checks.{Clear, clear, cases_option, answered_ok, answered_err, neither, file_clear}
 use Rattle.sitting.proofs.Following.{follows_on, tracks_filed, onward, unfiled}
 
@@ -90,7 +90,7 @@ module _ (F : List Line) (o : SortOptions) (f : Frame) (old : List ℕ) where
     exact : EachGranted (λ _ first xs line w. w ≡ window o f (take (first + length xs) F) line) es
     onward : EachGranted (λ before _ _ _ w. NotBefore F o f before w) es
     unfiled : EachGranted (λ before _ _ _ w. (filed_count before ≤ w.0) × (filed_count before ≤ w.1)) es
-    holds : causal f.units f.end ≡ true → Fit o f.units F → EachGranted (λ _ _ _ line w. Settled f.units F line → Same-lines F o f line w) es
+    holds : causal f.units f.end ≡ true → Fit o f.units F → EachGranted (λ _ _ _ line w. Settled f.units F line → SameLines F o f line w) es
 
   -- before any call
   at_opening : Stands [] (fresh o f old)
@@ -144,7 +144,7 @@ module _ (F : List Line) (o : SortOptions) (f : Frame) (old : List ℕ) where
     only (Ok w) t p = tt
     only (Err e) t p = (p.groups, p.refusal, omega (arith, room, p.more))
 
-    due_now : (r : Result (ℕ × ℕ) Refusal) (t : State) → Window (after es used table) first xs line r t → Question-due F o f (length old) es first xs line r
+    due_now : (r : Result (ℕ × ℕ) Refusal) (t : State) → Window (after es used table) first xs line r t → QuestionDue F o f (length old) es first xs line r
     due_now r t p = record {
       refused = λ e h. (p.refused e h).0;
       passed = λ h. only r t (p.passed h);
@@ -168,9 +168,9 @@ module _ (F : List Line) (o : SortOptions) (f : Frame) (old : List ℕ) where
     not_earlier (since h) st c = onward F (after es used table) first xs line st c h
 
     -- the window of a causal frame holds over all lines
-    same_lines : (st : Stretch F first xs) (c : Clear o f (last_grant es) (filed_count es) first xs line) (w : ℕ × ℕ) → w ≡ window o f (take (first + length xs) F) line → causal f.units f.end ≡ true → Fit o f.units F → Settled f.units F line → Same-lines F o f line w
+    same_lines : (st : Stretch F first xs) (c : Clear o f (last_grant es) (filed_count es) first xs line) (w : ℕ × ℕ) → w ≡ window o f (take (first + length xs) F) line → causal f.units f.end ≡ true → Fit o f.units F → Settled f.units F line → SameLines F o f line w
     same_lines st c w e k fit settled =
-        let P : ℕ × ℕ → Type 0 = λ v. Same-lines F o f line v in
+        let P : ℕ × ℕ → Type 0 = λ v. SameLines F o f line v in
         let a = clause_causal o f.units f.start f.end F line fit k settled (first + length xs) c.inside st.within in
         subst P (sym e) (record { still = λ j. (a j).0; back = λ j. (a j).1 })
 

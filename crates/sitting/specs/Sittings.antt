@@ -74,13 +74,13 @@ module _ (F : List Line) (o : SortOptions) (f : Frame) where
   OnlyShort room (Err e) = (f.units ≡ Groups) × (e ≡ refuse TurnTableShort e.place) × (room < e.place)
 
   -- the answer that is due to a call after these calls, with a turn table of so many entries
-  pub record Question-due (room : ℕ) (es : List Event) (first : ℕ) (xs : List Line) (line : ℕ) (r : Result (ℕ × ℕ) Refusal) : Type 0 where
+  pub record QuestionDue (room : ℕ) (es : List Event) (first : ℕ) (xs : List Line) (line : ℕ) (r : Result (ℕ × ℕ) Refusal) : Type 0 where
     pub refused : (e : Refusal) → fault o f (last_grant es) (filed_count es) first xs line ≡ Some e → r ≡ Err e
     pub passed : fault o f (last_grant es) (filed_count es) first xs line ≡ None → OnlyShort room r
     pub shown : Stretch F first xs → r ≡ answered (or_else (fault o f (last_grant es) (filed_count es) first xs line) (short f.units room (wanted es (first + length xs) line))) (window o f (take (first + length xs) F) line)
 
   abbrev pub Due : ℕ → List Event → Event → Type 0
-  Due room es (asked first xs line r) = Question-due room es first xs line r
+  Due room es (asked first xs line r) = QuestionDue room es first xs line r
   Due room es (put n r) = r ≡ filing (last_grant es) (filed_count es) n
 
   abbrev pub EachDue : ℕ → List Event → Type 0
@@ -92,7 +92,7 @@ module _ (F : List Line) (o : SortOptions) (f : Frame) where
   NotBefore es w = EachGranted (λ _ _ _ _ v. (v.0 ≤ w.0) × (v.1 ≤ w.1)) es
 
   -- a window holds exactly the lines that the clause's window over all of F holds
-  pub record Same-lines (line : ℕ) (w : ℕ × ℕ) : Type 0 where
+  pub record SameLines (line : ℕ) (w : ℕ × ℕ) : Type 0 where
     pub still : (j : ℕ) → Holds w.0 w.1 j → Holds (window o f F line).0 (window o f F line).1 j
     pub back : (j : ℕ) → Holds (window o f F line).0 (window o f F line).1 j → Holds w.0 w.1 j
 
@@ -105,7 +105,7 @@ module _ (F : List Line) (o : SortOptions) (f : Frame) where
     pub onward : EachGranted (λ before _ _ _ w. NotBefore before w) es
     pub unfiled : EachGranted (λ before _ _ _ w. (filed_count before ≤ w.0) × (filed_count before ≤ w.1)) es
     -- windows of a causal frame hold the lines that they hold over all of F
-    pub holds : causal f.units f.end ≡ true → Fit o f.units F → EachGranted (λ _ _ _ line w. Settled f.units F line → Same-lines line w) es
+    pub holds : causal f.units f.end ≡ true → Fit o f.units F → EachGranted (λ _ _ _ line w. Settled f.units F line → SameLines line w) es
     -- the tracker holds what the calls have left
     pub last : s.last ≡ last_grant es
     pub filed : s.filed ≡ filed_count es

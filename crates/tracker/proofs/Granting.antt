@@ -150,8 +150,8 @@ module _ (o : SortOptions) (u : WindowFrameUnits) (b e : WindowFrameBound) (g : 
           refused = λ y k. absurd (no_fault its_fault y none k);
           passed = λ k. record { groups = h.0; refusal = refl; more = h.1; stays = still };
           exact = λ F t st.
-              let short-is = ap (λ d. or_else d (short u (length old) (rules.needed F was first xs line))) none ∙ lacks F o b e g used old xs line n new u filed first clear_of.from t st clear_of p in
-              (sym (ap (λ d. answered d (granted F was first xs line)) short-is), still ∙ sym (ap (λ d. settled d was (moved_on F was first xs line)) short-is));
+              let short_is = ap (λ d. or_else d (short u (length old) (rules.needed F was first xs line))) none ∙ lacks F o b e g used old xs line n new u filed first clear_of.from t st clear_of p in
+              (sym (ap (λ d. answered d (granted F was first xs line)) short_is), still ∙ sym (ap (λ d. settled d was (moved_on F was first xs line)) short_is));
         }
 
     -- one that is granted

@@ -283,7 +283,7 @@ module _ (s : Standing) (table : List ℕ) (k : Sound s table) (line total : ℕ
         };
       }
 
-  module _ {K : Type 0} (rank : K → ℤ) (first : ℕ) (xs : List (Option K)) (is : first ≡ s.filed) (total-is : total ≡ total_of first xs) where
+  module _ {K : Type 0} (rank : K → ℤ) (first : ℕ) (xs : List (Option K)) (is : first ≡ s.filed) (total_is : total ≡ total_of first xs) where
     at_ready : Ready table s.live s.at first (total_of first xs) line
     at_ready = ready s table first (total_of first xs) line k is (omega arith) (omega arith) onward
 
@@ -321,7 +321,7 @@ module _ (s : Standing) (table : List ℕ) (k : Sound s table) (line total : ℕ
 
     pub keeps : (u : WindowFrameUnits) → (framed s.frame).units ≡ u → (a : Answered) (new : List ℕ) → Finds u (state s table) first (ranked rank xs) line (Ok a) new → Keeps s table line total a new
     keeps Rows h a new p =
-        let t : total ≡ first + length (ranked rank xs) = total-is ∙ all_shown rank first xs in
+        let t : total ≡ first + length (ranked rank xs) = total_is ∙ all_shown rank first xs in
         let r = rows_past h in
         let b = (framed s.frame).start in
         let e = (framed s.frame).end in

@@ -74,11 +74,11 @@ walked_counts line entries k e (q ∷ es) r =
     let i = walked_counts line entries (k + 1) q es r.1 in
     let s : k + 1 + m ≡ k + suc m = omega arith in
     let n' : amount line entries k e (q ∷ es) ≡ suc m = omega arith in
-    let in-range : m < length (q ∷ es) = omega arith in
+    let in_range : m < length (q ∷ es) = omega arith in
     ap (λ b. cond b (w es (k + 1) q) (k, e)) g
     ∙ i
     ∙ ap (λ i. (i, get_or (q ∷ es) m q)) s
-    ∙ ap (λ i. (k + suc m, i)) (get_or_default (q ∷ es) m q e in-range)
+    ∙ ap (λ i. (k + suc m, i)) (get_or_default (q ∷ es) m q e in_range)
     ∙ ap (λ i. (k + i, get_or (e ∷ q ∷ es) i e)) (sym n'))
     (λ (g : goes line entries k e ≡ false).
     let n = none_more line entries k e (q ∷ es) r g in

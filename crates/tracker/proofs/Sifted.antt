@@ -64,15 +64,15 @@ module _ (s : Standing) (table : List ℕ) (k : Sound s table) where
   stay_within Groups n = all_kept_by (λ e. ltb n e) (λ e. e ≤ s.last.total) (take s.live table) in_use_within
 
   pub filed_sound : (n live : ℕ) (new : List ℕ) → n ≤ limit (grant_of s.last) → live ≡ length (staying (framed s.frame).units n (take s.live table)) → new ≡ in_front (staying (framed s.frame).units n (take s.live table)) table → Sound (record { frame = s.frame; options = s.options; last = s.last; filed = n; live = live; at = 0 }) new
-  filed_sound n live new h is now-is =
+  filed_sound n live new h is now_is =
       let u = (framed s.frame).units in
       let es = staying u n (take s.live table) in
-      let get : (i : ℕ) → i < length es → get_or new i 0 ≡ get_or es i 0 = λ i l. ap (λ ys. get_or ys i 0) now-is ∙ get_or_append_left es (drop (length es) table) 0 i l in
+      let get : (i : ℕ) → i < length es → get_or new i 0 ≡ get_or es i 0 = λ i l. ap (λ ys. get_or ys i 0) now_is ∙ get_or_append_left es (drop (length es) table) 0 i l in
       record {
         kept = (omega arith, omega arith, omega arith);
         shown = k.shown;
         rowed = k.rowed;
-        room = omega (arith, ap length now-is, length-append es (drop (length es) table));
+        room = omega (arith, ap length now_is, length-append es (drop (length es) table));
         past = λ i l. omega (arith, get i (omega arith), rise_above n 0 es i (stay_rise u n) (omega arith));
         within = λ i l. omega (arith, get i (omega arith), All-get_or (λ e. e ≤ s.last.total) es i 0 (omega arith) (stay_within u n));
         rising = λ i j l m. omega (arith, get i (omega arith), get j (omega arith), rise_strict n es i j (stay_rise u n) l (omega arith));

@@ -2,7 +2,7 @@
 use Rattle.std.proofs.Common.{◌≡◌, ℕ, ◌+◌, ◌-◌, ◌<◌, ◌≤◌, Bool, true, false, cond, eqb, List, [], ◌∷◌, ◌++◌, length, sym, refl, ap, ◌∙◌, subst, ⊎_elim, append_assoc, append-nil, arith, length-append, eqb-true}
 use Rattle.std.proofs.lemmas.Bool.{cases_Bool, eqb-false, ne_eqb}
 use Rattle.words.specs.Words.{Placed, closed, cut, words_from}
-use Rattle.words.specs.Cuts.{Spaceless, Stops, Cuts, none, gap, run, Cut-of}
+use Rattle.words.specs.Cuts.{Spaceless, Stops, Cuts, none, gap, run, CutOf}
 
 pub spaceless_push : (w : List ℕ) (b : ℕ) → Spaceless w → (b ≡ 32 → ⊥) → Spaceless (w ++ b ∷ [])
 spaceless_push [] b h e = (e, tt)
@@ -63,7 +63,7 @@ only_cut none = refl
 only_cut (gap c) = only_cut c
 only_cut (run {p = p} w rest l h s c) = ap (λ (vs : List Placed). record { text = w; place = p } ∷ vs) (only_cut c) ∙ sym (one_word p w rest l h s)
 
-pub cut_of : (bs : List ℕ) → Cut-of bs (words_from bs 0)
+pub cut_of : (bs : List ℕ) → CutOf bs (words_from bs 0)
 cut_of bs = record {
   holds = subst (λ (q : ℕ). Cuts q bs (words_from bs 0)) (omega arith) (cuts 0 [] bs (omega arith) tt);
   only = λ vs c. only_cut c;

@@ -19,6 +19,6 @@ pub data Cuts : ℕ → List ℕ → List Placed → Type 0 where
   run : {p : ℕ} (w rest : List ℕ) {ws : List Placed} → 0 < length w → Spaceless w → Stops rest → Cuts (p + length w) rest ws → Cuts p (w ++ rest) (record { text = w; place = p } ∷ ws)
 
 -- a text holds these words and no others
-pub record Cut-of (bs : List ℕ) (ws : List Placed) : Type 0 where
+pub record CutOf (bs : List ℕ) (ws : List Placed) : Type 0 where
   pub holds : Cuts 0 bs ws
   pub only : (vs : List Placed) → Cuts 0 bs vs → vs ≡ ws

@@ -1,6 +1,6 @@
 ghost use Rattle.std.specs.Prelude.{◌≡◌, ◌+◌, ◌≤◌, length, drop};
 ghost use Rattle.std.specs.List.{prefix_len};
-ghost use Rattle.words.specs.Cuts.{Cut-of};
+ghost use Rattle.words.specs.Cuts.{CutOf};
 ghost use Rattle.words.specs.Tokens.{placed, token};
 ghost use Rattle.words.specs.Words.{like, all_words, first, later, words_from, Next};
 ghost use Rattle.words.specs.Cursor.{left};
@@ -49,7 +49,7 @@ fn next_span<'a>(text: &'a [u8], from: usize) -> (Span<'a>, usize)
 impl<'a> Words<'a> {
     pub fn new(text: &'a [u8]) -> Words<'a>
         ensures words { left result ≡ all_words text.now }
-        ensures runs { Cut-of text.now (left result).words }
+        ensures runs { CutOf text.now (left result).words }
     {
         Words { text, at: 0 }
     }

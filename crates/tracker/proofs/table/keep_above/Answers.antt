@@ -22,16 +22,16 @@ loop-at-preserved c =
     let n = c.args.n in
     let old = c.args.table.now in
     let l = c.loop-at in
-    let in-range : l.at < length old = omega (arith, c.min-used.ensures) in
-    let read = sifted_read n old l.table l.at l.count l.invariant in-range in
+    let in_range : l.at < length old = omega (arith, c.min-used.ensures) in
+    let read = sifted_read n old l.table l.at l.count l.invariant in_range in
     elim c.if-end-n.branch [
       | then-end-n w ↦
-          let h = sifted_in n old l.table l.at l.count l.invariant in-range (lt-ltb _ _ (omega arith)) (get_or l.table l.at 0) read in
+          let h = sifted_in n old l.table l.at l.count l.invariant in_range (lt-ltb _ _ (omega arith)) (get_or l.table l.at 0) read in
           let P : List ℕ → Type 0 = λ ys. Sifted n old ys (l.at + 1) (l.count + 1) in
           let Q : ℕ → Type 0 = λ k. Sifted n old c.if-end-n.table (l.at + 1) k in
           subst Q (sym w.count-is) (subst P (sym w.table-is) h)
       | else-end-n w ↦
-          let h = sifted_out n old l.table l.at l.count l.invariant in-range (le-ltb _ _ (omega arith)) in
+          let h = sifted_out n old l.table l.at l.count l.invariant in_range (le-ltb _ _ (omega arith)) in
           let P : List ℕ → Type 0 = λ ys. Sifted n old ys (l.at + 1) l.count in
           let Q : ℕ → Type 0 = λ k. Sifted n old c.if-end-n.table (l.at + 1) k in
           subst Q (sym w.count-is) (subst P (sym w.table-is) h)
