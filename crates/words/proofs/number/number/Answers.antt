@@ -2,9 +2,9 @@ use Rattle.std.proofs.Common.{◌≡◌, sym, ◌∙◌, arith}
 use Rattle.words.proofs.Decimal.{step, stop, done}
 use Rattle.words.proofs.number.number.Goals as goal
 
-pub returns-in-err-n : goal.returns-in-err-n
-returns-in-err-n c =
-    c.from-residual.ensures ∙ stop c.loop-b.n c.loop-b.b-index c.args.text.now (omega arith) (sym c.with-digit.ensures ∙ c.in-err-n.was) c.loop-b.invariant.0 c.loop-b.invariant.1
+pub returns-in_err-n : goal.returns-in_err-n
+returns-in_err-n c =
+    c.from_residual.ensures ∙ stop c.loop-b.n c.loop-b.b-index c.args.text.now (omega arith) (sym c.with_digit.ensures ∙ c.in_err-n.was) c.loop-b.invariant.0 c.loop-b.invariant.1
 
 pub loop-b-preserved : goal.loop-b-preserved
 loop-b-preserved c =

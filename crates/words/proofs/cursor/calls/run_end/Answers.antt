@@ -8,9 +8,9 @@ loop-at-preserved c =
     let e = prefix_len-drop_yes (like c.args.space) c.args.text.now c.loop-at.at 0 c.loop-at-test.true (sym c.if-is_like.ensures) in
     (omega arith, omega arith)
 
-pub returns-else-is-like : goal.returns-else-is-like
-returns-else-is-like c =
-    let e = prefix_len-drop_no (like c.args.space) c.args.text.now c.loop-at.at 0 c.loop-at-test.true (sym c.if-is-like.ensures) in
+pub returns-else-is_like : goal.returns-else-is_like
+returns-else-is_like c =
+    let e = prefix_len-drop_no (like c.args.space) c.args.text.now c.loop-at.at 0 c.loop-at-test.true (sym c.if-is_like.ensures) in
     record { value = omega arith; bound = omega arith }
 
 pub returns-after-loop-at : goal.returns-after-loop-at
