@@ -6,4 +6,4 @@ pub returns : goal.returns
 returns c =
     let h : 4 ≤ length c.args.bytes.now = search rules in
     let s : c.args.stands ≡ true = search rules in
-    taken c.args.stands 4 _ c.args.bytes.now s h (c.from-le-bytes.ensures ∙ little_4 c.args.bytes.now h)
+    taken c.args.stands 4 _ c.args.bytes.now s h (c.from_le_bytes.ensures ∙ little_4 c.args.bytes.now h)

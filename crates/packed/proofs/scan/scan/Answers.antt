@@ -4,7 +4,7 @@ use Rattle.packed.proofs.scan.scan.Goals as goal
 
 pub returns : goal.returns
 returns c =
-    let p = c.scan-places.ensures in
+    let p = c.scan_places.ensures in
     record {
       answer = p.answer;
       table = p.table;

@@ -9,7 +9,7 @@ visible b = grind (arith, nat_tests)
 
 pub loop-b-preserved : goal.loop-b-preserved
 loop-b-preserved c =
-    let p = c.in-ok-push.ensures in
+    let p = c.in_ok-push.ensures in
     let a = visible (get_or c.args.word.now c.loop-b.b-index 0) in
     let small : c.printable.result < 128 = omega (arith, c.printable.ensures) in
     let one = p.ascii small in

@@ -13,9 +13,9 @@ returns-in-Following g c =
     let xs = g.V.Transcript.lines v in
     let ys = ranked rank xs in
     let short : length ys ≤ 18446744073709551615 = omega (arith, all_of rank f xs f c.total-total.result 0 0 refl c.total-total.ensures) in
-    c.turn-start-in-Following.ensures
-    ∙ ap (λ (k : ℕ). f + k) (capped ys c.saturating-add-in-Following.result (c.turn-number-turn.result + c.in-Following.n + 1) short (capped_next c.turn-number-turn.result c.in-Following.n c.saturating-add.result c.saturating-add-in-Following.result c.saturating-add.ensures c.saturating-add-in-Following.ensures))
-    ∙ ap (λ (t : ℕ). f + first_of None same_line ys (t + c.in-Following.n + 1)) c.turn-number-turn.ensures
+    c.turn_start-in-Following.ensures
+    ∙ ap (λ (k : ℕ). f + k) (capped ys c.saturating_add-in-Following.result (c.turn_number-turn.result + c.in-Following.n + 1) short (capped_next c.turn_number-turn.result c.in-Following.n c.saturating_add.result c.saturating_add-in-Following.result c.saturating_add.ensures c.saturating_add-in-Following.ensures))
+    ∙ ap (λ (t : ℕ). f + first_of None same_line ys (t + c.in-Following.n + 1)) c.turn_number-turn.ensures
     ∙ simp c.in-Following.is
 
 pub returns-in-UnboundedFollowing : goal.returns-in-UnboundedFollowing

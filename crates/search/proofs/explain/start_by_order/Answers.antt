@@ -16,4 +16,4 @@ returns-in-UnboundedFollowing g c =
 pub returns-in-default : goal.returns-in-default
 returns-in-default g c =
     let v = c.args.view.now in
-    start_counted g.K.KeyKind.rank (g.V.Transcript.starts v) (g.V.Transcript.lines v) _ _ c.args.line _ c.first-first.ensures c.total-total.ensures c.args.options c.args.bound c.requires.low c.in-default.not-UnboundedPreceding c.in-default.not-UnboundedFollowing c.count-passing.ensures
+    start_counted g.K.KeyKind.rank (g.V.Transcript.starts v) (g.V.Transcript.lines v) _ _ c.args.line _ c.first-first.ensures c.total-total.ensures c.args.options c.args.bound c.requires.low c.in-default.not-UnboundedPreceding c.in-default.not-UnboundedFollowing c.count_passing.ensures

@@ -13,9 +13,9 @@ returns-in-Following g c =
     let xs = g.V.Transcript.lines v in
     let ys = ranked rank xs in
     let short : length ys ≤ 18446744073709551615 = omega (arith, all_of rank f xs f c.total-total.result 0 0 refl c.total-total.ensures) in
-    c.turn-start-in-Following.ensures
-    ∙ ap (λ (k : ℕ). f + k) (capped ys c.saturating-add.result (c.turn-number-turn.result + c.in-Following.n) short (capped_sum c.turn-number-turn.result c.in-Following.n c.saturating-add.result c.saturating-add.ensures))
-    ∙ ap (λ (t : ℕ). f + first_of None same_line ys (t + c.in-Following.n)) c.turn-number-turn.ensures
+    c.turn_start-in-Following.ensures
+    ∙ ap (λ (k : ℕ). f + k) (capped ys c.saturating_add.result (c.turn_number-turn.result + c.in-Following.n) short (capped_sum c.turn_number-turn.result c.in-Following.n c.saturating_add.result c.saturating_add.ensures))
+    ∙ ap (λ (t : ℕ). f + first_of None same_line ys (t + c.in-Following.n)) c.turn_number-turn.ensures
     ∙ simp c.in-Following.is
 
 pub returns-in-UnboundedFollowing : goal.returns-in-UnboundedFollowing

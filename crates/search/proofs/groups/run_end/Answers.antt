@@ -6,6 +6,6 @@ pub returns : goal.returns
 returns g c =
     let v = c.args.view.now in
     record {
-      inside = λ low high. c.first-failing.ensures ∙ run_ends_at g.K.KeyKind.rank (g.V.Transcript.starts v) (g.V.Transcript.lines v) c.args.n c.total-total.result c.total-total.ensures low c.if-n-total.false;
+      inside = λ low high. c.first_failing.ensures ∙ run_ends_at g.K.KeyKind.rank (g.V.Transcript.starts v) (g.V.Transcript.lines v) c.args.n c.total-total.result c.total-total.ensures low c.if-n-total.false;
       past = λ h. absurd (omega arith);
     }

@@ -17,14 +17,14 @@ loop-at-preserved g c =
       omega arith,
       omega arith,
       λ h. elim c.else-at-total.branch [
-        | else-at-total-via-then-at-total+else-not-passes-at w ↦ here ∙ sym (turn_same rank f xs c.loop-at.at low (sym w.passes-at.ensures ∙ w.if-not-passes-at.false))
+        | else-at-total-via-then-at-total+else-not-passes-at w ↦ here ∙ sym (turn_same rank f xs c.loop-at.at low (sym w.passes_at.ensures ∙ w.if-not-passes_at.false))
         | else-at-total-via-else-at-total w ↦ absurd (omega (arith, w.if-at-total.false))
       ],
       all_more (λ j. turn_of None same_line (ranked rank xs) j < c.args.k) f c.loop-at.at low c.loop-at.invariant.3 (omega (arith, here)),
     )
 
-pub loop-at-preserved-then-not-passes-at : goal.loop-at-preserved-then-not-passes-at
-loop-at-preserved-then-not-passes-at g c =
+pub loop-at-preserved-then-not-passes_at : goal.loop-at-preserved-then-not-passes_at
+loop-at-preserved-then-not-passes_at g c =
     let v = c.args.view.now in
     let rank = g.K.KeyKind.rank in
     let f = g.V.Transcript.starts v in
@@ -33,7 +33,7 @@ loop-at-preserved-then-not-passes-at g c =
     let here = c.loop-at.invariant.2 c.loop-at-test.true in (
       omega arith,
       omega arith,
-      λ h. ap (λ (n : ℕ). n + 1) here ∙ sym (turn_next rank f xs c.loop-at.at low (sym c.passes-at.ensures ∙ c.if-not-passes-at.true)),
+      λ h. ap (λ (n : ℕ). n + 1) here ∙ sym (turn_next rank f xs c.loop-at.at low (sym c.passes_at.ensures ∙ c.if-not-passes_at.true)),
       all_more (λ j. turn_of None same_line (ranked rank xs) j < c.args.k) f c.loop-at.at low c.loop-at.invariant.3 (omega (arith, here)),
     )
 

@@ -8,16 +8,16 @@ use Rattle.tracker.specs.Trackers.{state_of}
 use Rattle.tracker.specs.Transfers.{slip_of, roll_fault}
 use Rattle.tracker.proofs.filing.file_roll.Goals as goal
 
-pub returns-in-err-check-filing : goal.returns-in-err-check-filing
-returns-in-err-check-filing g c =
+pub returns-in_err-check_filing : goal.returns-in_err-check_filing
+returns-in_err-check_filing g c =
     let s = state_of c.args.tracker.now in
     let h = held_of c.args.roll.now in
     let xs = c.args.array.now in
     let n = c.args.n in
-    let x = c.in-err-check-filing.field-0.0 in
-    let p = err_from_is_err_and c.from-residual.result c.from-residual.ensures.1 in
-    let is : c.from-residual.result ≡ Err x = p.1 ∙ ap Err p.2 in
-    let due : roll_fault s n h (length xs) ≡ Some x = ap (λ d. or_else d (meet_fault h (length xs) (slip_of s n))) (answered_err _ tt x (sym c.in-err-check-filing.ensures)) in
+    let x = c.in_err-check_filing.field-0.0 in
+    let p = err_from_is_err_and c.from_residual.result c.from_residual.ensures.1 in
+    let is : c.from_residual.result ≡ Err x = p.1 ∙ ap Err p.2 in
+    let due : roll_fault s n h (length xs) ≡ Some x = ap (λ d. or_else d (meet_fault h (length xs) (slip_of s n))) (answered_err _ tt x (sym c.in_err-check_filing.ensures)) in
     record {
       answer = is ∙ sym (ap (λ d. answered d (s.filed, n)) due);
       tracker = sym (ap (λ d. settled d s (filed_to s n)) due);
@@ -26,17 +26,17 @@ returns-in-err-check-filing g c =
       lent = refl;
     }
 
-pub returns-in-err-check-slip : goal.returns-in-err-check-slip
-returns-in-err-check-slip g c =
+pub returns-in_err-check_slip : goal.returns-in_err-check_slip
+returns-in_err-check_slip g c =
     let s = state_of c.args.tracker.now in
     let h = held_of c.args.roll.now in
     let xs = c.args.array.now in
     let n = c.args.n in
-    let x = c.in-err-check-slip.field-0.0 in
-    let p = err_from_is_err_and c.from-residual-in-err-check-slip.result c.from-residual-in-err-check-slip.ensures.1 in
-    let is : c.from-residual-in-err-check-slip.result ≡ Err x = p.1 ∙ ap Err p.2 in
-    let none = (answered_ok _ tt tt (sym c.in-ok-check-filing.ensures)).0 in
-    let due : roll_fault s n h (length xs) ≡ Some x = ap (λ d. or_else d (meet_fault h (length xs) (slip_of s n))) none ∙ answered_err _ tt x (sym c.in-err-check-slip.ensures) in
+    let x = c.in_err-check_slip.field-0.0 in
+    let p = err_from_is_err_and c.from_residual-in_err-check_slip.result c.from_residual-in_err-check_slip.ensures.1 in
+    let is : c.from_residual-in_err-check_slip.result ≡ Err x = p.1 ∙ ap Err p.2 in
+    let none = (answered_ok _ tt tt (sym c.in_ok-check_filing.ensures)).0 in
+    let due : roll_fault s n h (length xs) ≡ Some x = ap (λ d. or_else d (meet_fault h (length xs) (slip_of s n))) none ∙ answered_err _ tt x (sym c.in_err-check_slip.ensures) in
     record {
       answer = is ∙ sym (ap (λ d. answered d (s.filed, n)) due);
       tracker = sym (ap (λ d. settled d s (filed_to s n)) due);
@@ -51,13 +51,13 @@ returns g c =
     let h = held_of c.args.roll.now in
     let xs = c.args.array.now in
     let n = c.args.n in
-    let none = (answered_ok _ tt tt (sym c.in-ok-check-filing.ensures)).0 in
-    let met = (answered_ok _ tt tt (sym c.in-ok-check-slip.ensures)).0 in
+    let none = (answered_ok _ tt tt (sym c.in_ok-check_filing.ensures)).0 in
+    let met = (answered_ok _ tt tt (sym c.in_ok-check_slip.ensures)).0 in
     let due : roll_fault s n h (length xs) ≡ None = ap (λ d. or_else d (meet_fault h (length xs) (slip_of s n))) none ∙ met in
     record {
       answer = sym (ap (λ d. answered d (s.filed, n)) due);
       tracker = c.file.ensures.filed.leaves ∙ ap (λ d. settled d s (filed_to s n)) none ∙ sym (ap (λ d. settled d s (filed_to s n)) due);
-      roll = c.move-on.ensures.roll ∙ sym (ap (λ d. settled d h (kept_from n h)) due);
-      array = c.move-on.ensures.array ∙ sym (ap (λ d. settled d xs (kept_slots n h xs)) due);
+      roll = c.move_on.ensures.roll ∙ sym (ap (λ d. settled d h (kept_from n h)) due);
+      array = c.move_on.ensures.array ∙ sym (ap (λ d. settled d xs (kept_slots n h xs)) due);
       lent = c.file.ensures.lent;
     }

@@ -6,14 +6,14 @@ use Rattle.tracker.proofs.walk.walk_on.Given.{Over}
 use Rattle.tracker.proofs.walk.walk_on.Goals as goal
 
 -- the step that the walk makes
-goes_to : (g : Over) (c : goal.After-run-end g) → Step g.K.KeyKind.rank (g.V.Transcript.starts c.args.view.now) (g.V.Transcript.lines c.args.view.now) c.loop-reach.reach.end c.run-end.result
+goes_to : (g : Over) (c : goal.After-run_end g) → Step g.K.KeyKind.rank (g.V.Transcript.starts c.args.view.now) (g.V.Transcript.lines c.args.view.now) c.loop-reach.reach.end c.run_end.result
 goes_to g c =
     let first = g.V.Transcript.starts c.args.view.now in
     let xs = g.V.Transcript.lines c.args.view.now in
     let p = c.loop-reach.reach.end in
     let low = c.loop-reach.invariant.0 in
     let high : p < total_of first xs = omega (arith, c.loop-reach-test.true, c.total-total.ensures) in
-    step g.K.KeyKind.rank first xs p c.run-end.result low high (c.run-end.ensures.inside low high)
+    step g.K.KeyKind.rank first xs p c.run_end.result low high (c.run_end.ensures.inside low high)
 
 pub loop-reach-init : goal.loop-reach-init
 loop-reach-init g c = (c.requires.low, c.requires.high, c.requires.few, refl)
@@ -36,17 +36,17 @@ loop-reach-preserved g c =
       omega (arith, s.past, inv.0),
       s.within,
       omega (arith, s.past, inv.2),
-      sym (walked_go c.args.line c.args.entries c.run-end.result (ends c.run-end.result) l.entries l.end (sym c.if-goes-on.ensures))
+      sym (walked_go c.args.line c.args.entries c.run_end.result (ends c.run_end.result) l.entries l.end (sym c.if-goes_on.ensures))
           ∙ ap (λ es. w es l.entries l.end) (sym s.ends)
           ∙ inv.3,
     )
 
-pub returns-else-goes-on : goal.returns-else-goes-on
-returns-else-goes-on g c =
+pub returns-else-goes_on : goal.returns-else-goes_on
+returns-else-goes_on g c =
     let first = g.V.Transcript.starts c.args.view.now in
     let xs = g.V.Transcript.lines c.args.view.now in
     let l = c.loop-reach.reach in
-    sym (walked_stop c.args.line c.args.entries (ends_from g.K.KeyKind.rank first xs l.end) l.entries l.end (sym c.if-goes-on.ensures)) ∙ c.loop-reach.invariant.3
+    sym (walked_stop c.args.line c.args.entries (ends_from g.K.KeyKind.rank first xs l.end) l.entries l.end (sym c.if-goes_on.ensures)) ∙ c.loop-reach.invariant.3
 
 pub returns-after-loop-reach : goal.returns-after-loop-reach
 returns-after-loop-reach g c =

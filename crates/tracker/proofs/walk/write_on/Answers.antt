@@ -19,11 +19,11 @@ loop-at-preserved g c =
     let k = c.args.from.entries in
     let all = take k old ++ ends c.args.from.end in
     let l = c.loop-at in
-    let r = c.run-end-end.result in
+    let r = c.run_end-end.result in
     let in_range : l.at < length l.table = omega (arith, c.loop-at-test.true, c.requires.room, l.auto.table) in
     let much : l.at < length all = omega (arith, c.loop-at-test.true, c.requires.more, c.requires.room, c.requires.enough, length-append (take k old) (ends c.args.from.end), length-take-le k old (omega (arith, c.requires.more, c.requires.room))) in
     let high = more_lines rank first xs l.end l.at all old l.table (omega arith) much l.invariant.1 in
-    let s = step rank first xs l.end r l.invariant.0 high (c.run-end-end.ensures.inside l.invariant.0 high) in
+    let s = step rank first xs l.end r l.invariant.0 high (c.run_end-end.ensures.inside l.invariant.0 high) in
     let P : List ℕ → Type 0 = λ es. Writing all old l.table es l.at in
     (omega (arith, s.past, l.invariant.0), write_next all old l.table (ends r) l.at r in_range (subst P s.ends l.invariant.1))
 

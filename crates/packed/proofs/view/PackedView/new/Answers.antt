@@ -4,8 +4,8 @@ use Rattle.packed.proofs.view.PackedView.new.Goals as goal
 
 pub returns : goal.returns
 returns g c =
-    let w = sym c.walk.ensures ∙ c.in-ok-count.was in
+    let w = sym c.walk.ensures ∙ c.in_ok-count.was in
     record {
-      view = made_view g.K.PackedKey.reads (record { first = c.args.first; count = c.in-ok-count.count; bytes = c.args.bytes; places = c.args.places; kind = record {} }) c.args.first c.args.places.now c.args.bytes.now refl refl refl (omega arith) w;
+      view = made_view g.K.PackedKey.reads (record { first = c.args.first; count = c.in_ok-count.count; bytes = c.args.bytes; places = c.args.places; kind = record {} }) c.args.first c.args.places.now c.args.bytes.now refl refl refl (omega arith) w;
       whole = record { holds = refl; agrees = w };
     }

@@ -14,7 +14,7 @@ returns-then-n-self g c =
     ]
 
 pub returns-in-Ok : goal.returns-in-Ok
-returns-in-Ok g c = c.key-of.ensures ∙ read_at g.K.PackedKey.reads c.args.self.now c.args.n c.place-of-place.result c.if-n-self.false (omega arith) c.place-of-place.ensures.value _ c.in-Ok.ensures
+returns-in-Ok g c = c.key_of.ensures ∙ read_at g.K.PackedKey.reads c.args.self.now c.args.n c.place_of-place.result c.if-n-self.false (omega arith) c.place_of-place.ensures.value _ c.in-Ok.ensures
 
 pub returns-in-Err : goal.returns-in-Err
-returns-in-Err g c = read_at g.K.PackedKey.reads c.args.self.now c.args.n c.place-of-place.result c.if-n-self.false (omega arith) c.place-of-place.ensures.value _ c.in-Err.ensures
+returns-in-Err g c = read_at g.K.PackedKey.reads c.args.self.now c.args.n c.place_of-place.result c.if-n-self.false (omega arith) c.place_of-place.ensures.value _ c.in-Err.ensures

@@ -9,7 +9,7 @@ returns-in-Following c =
     let s = c.args.self in
     let es = take s.entries s.table.now in
     let long : length es ≡ s.entries = length-take-le s.entries s.table.now c.requires.room in
-    c.begins-at-in-Following.ensures
-    ∙ ap (λ k. get_or (s.first ∷ es) k s.total) c.saturating-add.ensures
+    c.begins_at-in-Following.ensures
+    ∙ ap (λ k. get_or (s.first ∷ es) k s.total) c.saturating_add.ensures
     ∙ read_cut (s.first ∷ es) (c.args.g + c.in-Following.n) 18446744073709551615 s.total (omega (arith, c.requires.few))
     ∙ ap (λ b. start_by b s.first s.total es c.args.g) (sym c.in-Following.is)
