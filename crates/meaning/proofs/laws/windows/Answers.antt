@@ -8,7 +8,7 @@ returns c = record {
   lawful = clause_lawful;
   monotone = clause_monotone;
   causal = clause_causal;
-  not-causal = clause_not_causal;
+  not_causal = clause_not_causal;
   view = clause_view;
   tracked = clause_tracked;
 }
