@@ -8,8 +8,8 @@ pub returns-in-Err : goal.returns-in-Err
 returns-in-Err c =
     set-get_or c.loop-slot.table c.loop-slot.slot-index 0 ∙ sym (half_stops c.loop-slot.table c.loop-slot.slot-index _ _ _ c.in-Err.ensures) ∙ c.loop-slot.invariant.2
 
-pub overflow-cast-slot : goal.overflow-cast-slot
-overflow-cast-slot c = omega (arith, near c.loop-slot.table c.loop-slot.slot-index _ _ _ c.in-Ok.ensures c.loop-slot.invariant.1)
+pub overflow_cast-slot : goal.overflow_cast-slot
+overflow_cast-slot c = omega (arith, near c.loop-slot.table c.loop-slot.slot-index _ _ _ c.in-Ok.ensures c.loop-slot.invariant.1)
 
 pub loop-slot-preserved : goal.loop-slot-preserved
 loop-slot-preserved c =

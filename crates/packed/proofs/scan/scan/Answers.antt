@@ -8,5 +8,5 @@ returns c =
     record {
       answer = p.answer;
       table = p.table;
-      lines = scanned c.args.bytes.now c.args.table.now _ _ (λ i. omega (arith, c.type-inv.bytes i)) p.answer p.table;
+      lines = scanned c.args.bytes.now c.args.table.now _ _ (λ i. omega (arith, c.type_inv.bytes i)) p.answer p.table;
     }

@@ -3,8 +3,8 @@ use Rattle.search.specs.Tests.{led}
 use Rattle.search.proofs.Explaining.{from_le, all_of, start_counted}
 use Rattle.search.proofs.explain.start_by_order.Goals as goal
 
-pub overflow-add-result : goal.overflow-add-result
-overflow-add-result g c =
+pub overflow_add-result : goal.overflow_add-result
+overflow_add-result g c =
     let v = c.args.view.now in
     omega (arith, from_le (led g.K.KeyKind.rank (g.V.Transcript.starts v) (g.V.Transcript.lines v) c.args.options c.args.bound c.args.line) c.first-first.result (c.total-total.result - c.first-first.result))
 
@@ -13,7 +13,7 @@ returns-in-UnboundedFollowing g c =
     let v = c.args.view.now in
     all_of g.K.KeyKind.rank (g.V.Transcript.starts v) (g.V.Transcript.lines v) _ _ 0 0 c.first-first.ensures c.total-total.ensures ∙ simp c.in-UnboundedFollowing.is
 
-pub returns-in-default : goal.returns-in-default
-returns-in-default g c =
+pub returns-in_default : goal.returns-in_default
+returns-in_default g c =
     let v = c.args.view.now in
-    start_counted g.K.KeyKind.rank (g.V.Transcript.starts v) (g.V.Transcript.lines v) _ _ c.args.line _ c.first-first.ensures c.total-total.ensures c.args.options c.args.bound c.requires.low c.in-default.not-UnboundedPreceding c.in-default.not-UnboundedFollowing c.count_passing.ensures
+    start_counted g.K.KeyKind.rank (g.V.Transcript.starts v) (g.V.Transcript.lines v) _ _ c.args.line _ c.first-first.ensures c.total-total.ensures c.args.options c.args.bound c.requires.low c.in_default.not-UnboundedPreceding c.in_default.not-UnboundedFollowing c.count_passing.ensures

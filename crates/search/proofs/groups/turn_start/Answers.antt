@@ -4,7 +4,7 @@ use Rattle.meaning.specs.Lines.{ranked}
 use Rattle.meaning.specs.Turns.{turn_of}
 use Rattle.search.proofs.Seeking.{turn_same, turn_next, begins_at, all_more}
 use Rattle.search.proofs.groups.turn_start.Goals as goal
-use Rattle.search.proofs.groups.turn_start.Goals.{else-at-total-via-then-at-total+else-not-passes-at, else-at-total-via-else-at-total}
+use Rattle.search.proofs.groups.turn_start.Goals.{else-at-total-via-then-at-total+else-not-passes_at, else-at-total-via-else-at-total}
 
 pub loop-at-preserved : goal.loop-at-preserved
 loop-at-preserved g c =
@@ -17,7 +17,7 @@ loop-at-preserved g c =
       omega arith,
       omega arith,
       λ h. elim c.else-at-total.branch [
-        | else-at-total-via-then-at-total+else-not-passes-at w ↦ here ∙ sym (turn_same rank f xs c.loop-at.at low (sym w.passes_at.ensures ∙ w.if-not-passes_at.false))
+        | else-at-total-via-then-at-total+else-not-passes_at w ↦ here ∙ sym (turn_same rank f xs c.loop-at.at low (sym w.passes_at.ensures ∙ w.if-not-passes_at.false))
         | else-at-total-via-else-at-total w ↦ absurd (omega (arith, w.if-at-total.false))
       ],
       all_more (λ j. turn_of None same_line (ranked rank xs) j < c.args.k) f c.loop-at.at low c.loop-at.invariant.3 (omega (arith, here)),

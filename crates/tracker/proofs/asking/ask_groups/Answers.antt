@@ -53,7 +53,7 @@ start_of-requires g c =
     record {
       room = omega (arith, c.if-needed-table.false, c.write_on.auto.table);
       small = λ j h. omega (arith, total, ap (λ ys. get_or ys j 0) w, written_small rank first xs table live c.requires.room c.requires.held line c.requires.low c.requires.high b e j (omega (arith, n)));
-      few = omega (arith, n, t, m, total, c.total-total.type-inv);
+      few = omega (arith, n, t, m, total, c.total-total.type_inv);
     }
 
 pub end_of-requires : goal.end_of-requires
@@ -76,7 +76,7 @@ end_of-requires g c =
     record {
       room = omega (arith, c.if-needed-table.false, c.write_on.auto.table);
       small = λ j h. omega (arith, total, ap (λ ys. get_or ys j 0) w, written_small rank first xs table live c.requires.room c.requires.held line c.requires.low c.requires.high b e j (omega (arith, n)));
-      few = omega (arith, n, t, m, total, c.total-total.type-inv);
+      few = omega (arith, n, t, m, total, c.total-total.type_inv);
     }
 
 pub returns : goal.returns

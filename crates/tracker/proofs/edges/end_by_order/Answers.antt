@@ -11,5 +11,5 @@ returns-in-UnboundedFollowing g c =
     let xs = g.V.Transcript.lines c.args.view.now in
     c.total-total.ensures ∙ all_shown rank first xs ∙ ap (end_from c.args.options first (ranked rank xs) c.args.line c.args.from) (sym c.in-UnboundedFollowing.is)
 
-pub returns-in-default : goal.returns-in-default
-returns-in-default g c = c.range_end.ensures ∙ ends_from g.K.KeyKind.rank c.args.options _ _ c.args.line c.args.from c.args.bound c.in-default.not-UnboundedPreceding c.in-default.not-UnboundedFollowing
+pub returns-in_default : goal.returns-in_default
+returns-in_default g c = c.range_end.ensures ∙ ends_from g.K.KeyKind.rank c.args.options _ _ c.args.line c.args.from c.args.bound c.in_default.not-UnboundedPreceding c.in_default.not-UnboundedFollowing

@@ -37,7 +37,7 @@ returns g c =
     let s : c.furthest-start.result ≡ min (far b entry) big = c.furthest-start.ensures ∙ ap (λ x. min (far x entry) big) c.start_bound.ensures in
     let t : c.furthest-end.result ≡ min (far d entry) big = c.furthest-end.ensures ∙ ap (λ x. min (far x entry) big) c.end_bound.ensures in
     let want : c.max-2.result ≡ max (max live (min (far b entry) big)) (min (far d entry) big) = omega (arith, c.max.ensures, c.max-2.ensures, s, t) in
-    let fits : total_of first xs < big = omega (arith, c.total.ensures, c.total.type-inv) in
+    let fits : total_of first xs < big = omega (arith, c.total.ensures, c.total.type_inv) in
     ap (λ r. r.0) (c.walk_on.ensures ∙ from_place rank first xs line c.max-2.result _ _ (live - 1) p c.last_held-from.ensures.entries e)
     ∙ ap (λ k. (walked line k past (live - 1) p).0) want
     ∙ needs rank first xs table live c.requires.room c.requires.held line c.requires.low c.requires.high b d entry big fits c.requires.found

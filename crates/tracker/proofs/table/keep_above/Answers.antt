@@ -14,8 +14,8 @@ offset-bounds-table-count c = let b = c.loop-at.invariant.behind in search rules
 pub bounds-table-count : goal.bounds-table-count
 bounds-table-count c = let b = c.loop-at.invariant.behind in omega (arith, c.loop-at.auto.table, c.min-used.ensures)
 
-pub overflow-add-count : goal.overflow-add-count
-overflow-add-count c = let b = c.loop-at.invariant.behind in search rules
+pub overflow_add-count : goal.overflow_add-count
+overflow_add-count c = let b = c.loop-at.invariant.behind in search rules
 
 pub loop-at-preserved : goal.loop-at-preserved
 loop-at-preserved c =

@@ -18,8 +18,8 @@ goes_to g c =
 pub loop-reach-init : goal.loop-reach-init
 loop-reach-init g c = (c.requires.low, c.requires.high, c.requires.few, refl)
 
-pub overflow-add-reach : goal.overflow-add-reach
-overflow-add-reach g c = let few = c.loop-reach.invariant.2 in let t = c.loop-reach-test.true in search rules
+pub overflow_add-reach : goal.overflow_add-reach
+overflow_add-reach g c = let few = c.loop-reach.invariant.2 in let t = c.loop-reach-test.true in search rules
 
 pub loop-reach-smaller : goal.loop-reach-smaller
 loop-reach-smaller g c = let s = goes_to g c in omega (arith, s.past, c.loop-reach-test.true)
