@@ -8,8 +8,8 @@ use Rattle.tracker.proofs.table.keep_above.Goals as goal
 pub loop-at-init : goal.loop-at-init
 loop-at-init c = record { front = refl; count = refl; behind = omega arith }
 
-pub offset-bounds-table-count : goal.offset-bounds-table-count
-offset-bounds-table-count c = let b = c.loop-at.invariant.behind in search rules
+pub offset_bounds-table-count : goal.offset_bounds-table-count
+offset_bounds-table-count c = let b = c.loop-at.invariant.behind in search rules
 
 pub bounds-table-count : goal.bounds-table-count
 bounds-table-count c = let b = c.loop-at.invariant.behind in omega (arith, c.loop-at.auto.table, c.min-used.ensures)

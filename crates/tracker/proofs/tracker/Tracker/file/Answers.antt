@@ -13,8 +13,8 @@ use Rattle.tracker.proofs.Sifted.{filed_sound}
 use Rattle.tracker.proofs.Windows.{sound_of}
 use Rattle.tracker.proofs.tracker.Tracker.file.Goals as goal
 
-pub invariant-of-self : goal.invariant-of-self
-invariant-of-self g c =
+pub invariant_of-self : goal.invariant_of-self
+invariant_of-self g c =
     let t = c.args.self.now in
     let s = t.standing in
     let table = t.table.ends.now in
@@ -22,7 +22,7 @@ invariant-of-self g c =
     let u = c.units.ensures in
     let kept = c.keep_above-live.ensures in
     let h = filed_sound s table (sound_of t) n c.keep_above-live.result c.keep_above-live.new.self.ends.now (file_clear (grant_of s.last) s.filed n (answered_ok _ tt tt (sym c.in_ok-check_filing.ensures)).0).0 (kept.count ∙ ap (λ v. length (staying v n (take s.live table))) u) (kept.moved ∙ ap (λ v. in_front (staying v n (take s.live table)) table) u) in
-    (h.kept, (h.shown, (h.rowed, (h.room, (h.past, (h.within, (h.rising, (h.passed, (h.behind, tt)))))))))
+    record { kept = h.kept; shown = h.shown; rowed = h.rowed; room = h.room; past = h.past; within = h.within; rising = h.rising; passed = h.passed; behind = h.behind }
 
 pub returns-in_err-check_filing : goal.returns-in_err-check_filing
 returns-in_err-check_filing g c =

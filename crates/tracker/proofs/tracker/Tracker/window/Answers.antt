@@ -30,19 +30,19 @@ find-requires g c =
     let none = (answered_ok _ tt tt (sym c.in_ok-check.ensures)).0 in
     is_ready g.K.KeyKind.rank t.standing t.table.ends.now (sound_of t) (g.V.Transcript.starts c.args.view.now) (g.V.Transcript.lines c.args.view.now) c.args.line none
 
-pub invariant-of-self : goal.invariant-of-self
-invariant-of-self g c =
+pub invariant_of-self : goal.invariant_of-self
+invariant_of-self g c =
     let t = c.args.self.now in
     let none = (answered_ok _ tt tt (sym c.in_ok-check.ensures)).0 in
     let h = (is_kept g.K.KeyKind.rank t.standing t.table.ends.now (sound_of t) (g.V.Transcript.starts c.args.view.now) (g.V.Transcript.lines c.args.view.now) c.args.line none c.total-total.result c.total-total.ensures c.in-Ok.found c.find.new.self.ends.now c.in-Ok.ensures.found).sound in
-    (h.kept, (h.shown, (h.rowed, (h.room, (h.past, (h.within, (h.rising, (h.passed, (h.behind, tt)))))))))
+    record { kept = h.kept; shown = h.shown; rowed = h.rowed; room = h.room; past = h.past; within = h.within; rising = h.rising; passed = h.passed; behind = h.behind }
 
-pub invariant-of-self-in-Err· : goal.invariant-of-self-in-Err·
-invariant-of-self-in-Err· g c =
+pub invariant_of-self-in-Err-1 : goal.invariant_of-self-in-Err-1
+invariant_of-self-in-Err-1 g c =
     let t = c.args.self.now in
     let none = (answered_ok _ tt tt (sym c.in_ok-check.ensures)).0 in
     let h = still_sound g.K.KeyKind.rank t.standing t.table.ends.now (sound_of t) (g.V.Transcript.starts c.args.view.now) (g.V.Transcript.lines c.args.view.now) c.args.line none c.in-Err.needed c.find.new.self.ends.now c.in-Err.ensures.found in
-    (h.kept, (h.shown, (h.rowed, (h.room, (h.past, (h.within, (h.rising, (h.passed, (h.behind, tt)))))))))
+    record { kept = h.kept; shown = h.shown; rowed = h.rowed; room = h.room; past = h.past; within = h.within; rising = h.rising; passed = h.passed; behind = h.behind }
 
 pub returns-in-Ok : goal.returns-in-Ok
 returns-in-Ok g c =
