@@ -1,28 +1,27 @@
 -- The reader's definition and the grammar agree.
-use Rattle.std.proofs.Common.{◌≡◌, ℕ, ◌^◌, ◌<◌, ◌≤◌, Bool, true, false, cond, eqb, leb, ◌⊎◌, List, [], ◌∷◌, map, length, get_or, Some, None, Ok, Err, Option, Result, sym, refl, ap, ◌∙◌, subst, inl, inr, ⊎_elim, arith, lit<, lit≤}
+use Rattle.std.proofs.Common.{◌≡◌, ℕ, ◌^◌, ◌<◌, ◌≤◌, Bool, true, false, cond, eqb, leb, ◌⊎◌, List, [], ◌∷◌, length, get_or, Some, None, Ok, Err, Option, Result, sym, refl, ap, ◌∙◌, subst, inl, inr, ⊎_elim, arith, lit<, lit≤}
 use borrow.Author.Tests.{clash}
-use Rattle.std.proofs.lemmas.Bool.{cases_Bool, eqb-true, eqb-false, leb-true, and_parts}
+use Rattle.std.proofs.lemmas.Bool.{cases_Bool, eqb-true, eqb-false, leb-true}
 use Rattle.std.proofs.lemmas.Bool.Decides.{nat_tests}
 use Rattle.std.specs.Option.{ok_or}
 use Rattle.frame.specs.declared.bound.WindowFrameUnits.{WindowFrameUnits}
 use Rattle.frame.specs.declared.bound.WindowFrameUnits.TheVariants as units
 use Rattle.frame.specs.declared.bound.WindowFrameBound.{WindowFrameBound}
 use Rattle.frame.specs.declared.bound.WindowFrameBound.TheVariants as bounds
-use Rattle.frame.specs.declared.refusal.Reason.TheVariants.{BadNumber, WordAfterClause, StartUnboundedFollowing, EndUnboundedPreceding}
+use Rattle.frame.specs.declared.refusal.Reason.TheVariants.{BadNumber, StartUnboundedFollowing, EndUnboundedPreceding}
 use Rattle.frame.specs.declared.refusal.Layer.TheVariants as layers
 use Rattle.words.specs.declared.letters.Keyword.{Keyword}
 use Rattle.words.specs.declared.letters.Keyword.TheVariants.{Rows, Range, Groups, Between, And, Unbounded, Current, Row, Preceding, Following}
 use Rattle.words.specs.Letters.{lowered, name_of, keyword}
-use Rattle.words.specs.Words.{Placed, Rest, Token, token_by, first_of, first, tail, later, starts_with_digit, digit, key, number, other, missing, words_from, all_words}
+use Rattle.words.specs.Words.{Placed, Rest, Token, token_by, first_of, first, tail, later, starts_with_digit, digit, key, number, other, words_from, all_words}
 use Rattle.words.specs.Tokens.{span_of}
-use Rattle.words.specs.Numbers.{numeral, numeral_or, all_digits, Numeral}
+use Rattle.words.specs.Numbers.{numeral, numeral_or, Numeral}
 use Rattle.words.specs.Faults.{both}
-use Rattle.words.specs.Cuts.{Cuts}
 use Rattle.words.proofs.Spelling.{keyword_says, says_keyword}
 use Rattle.words.proofs.Decimal.{numeral_reads, reads_numeral, numeral_begins}
 use Rattle.words.proofs.Running.{cut_of}
 use Rattle.frame.specs.Bounds.{kind, offset}
-use Rattle.frame.specs.Frames.{Frame, Admitted}
+use Rattle.frame.specs.Frames.{Frame}
 use Rattle.frame.specs.Refusals.{Refused, refused}
 use Rattle.frame.specs.Clause.{key_number, is, is_number, is_missing, then, wrong_in_bound, wrong_in_clause, side, row, by_offset, bound_by, Said, said_at, bound, unit, joint, pair, to_current, extent, judged, clause_of, clause}
 use Rattle.frame.specs.Grammar.{Says, IsUnit, IsBound, IsClause, ClauseOf}

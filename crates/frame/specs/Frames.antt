@@ -1,5 +1,5 @@
 -- Frames, and what turning one round gives.
-use Rattle.std.specs.Prelude.{◌≡◌, ℕ, ◌^◌, ◌<◌, Bool, ◌&&◌}
+use Rattle.std.specs.Prelude.{◌≡◌, ◌^◌, ◌<◌, Bool, ◌&&◌}
 use Rattle.frame.specs.declared.bound.WindowFrameUnits.{WindowFrameUnits}
 use Rattle.frame.specs.declared.bound.WindowFrameBound.{WindowFrameBound}
 use Rattle.frame.specs.declared.frame.WindowFrame.{WindowFrame}

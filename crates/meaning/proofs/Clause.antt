@@ -1,16 +1,15 @@
 -- The laws of a whole clause.
-use Rattle.std.proofs.Common.{◌≡◌, ℕ, zero, suc, ◌+◌, ◌-◌, ◌<◌, ◌≤◌, min, max, Bool, true, false, not, ltb, List, [], ◌∷◌, length, get_or, take, drop, ℤ, pos, negsuc, is_some, Some, None, Decides, sym, refl, ap, ◌∙◌, subst, ⊎_elim, arith}
+use Rattle.std.proofs.Common.{◌≡◌, ℕ, zero, suc, ◌+◌, ◌-◌, ◌<◌, ◌≤◌, true, false, ltb, List, length, get_or, take, ℤ, pos, negsuc, is_some, Some, None, Decides, sym, refl, ap, ◌∙◌, ⊎_elim, arith}
 use Rattle.std.proofs.lemmas.Bool.{both_ways, cases_lt, not_from_false, not-true, lt-ltb, le-ltb, ltb-true, ltb-false, eqb-true, eqb-false, eq-eqb}
 use Rattle.std.proofs.lemmas.Bool.Decides.{nat_tests}
 use Rattle.std.proofs.lemmas.List.{get_or-take, length-take-le}
 use Rattle.frame.specs.declared.bound.WindowFrameBound.{WindowFrameBound}
 use Rattle.frame.specs.declared.bound.WindowFrameBound.TheVariants.{UnboundedPreceding, Preceding, CurrentRow, Following, UnboundedFollowing}
-use Rattle.meaning.specs.Lines.{Line, Holds}
-use Rattle.meaning.specs.Edges.{Edge, Lawful, Monotone, Causal}
+use Rattle.meaning.specs.Lines.{Line}
 use Rattle.meaning.specs.Rows.{rows_start, rows_end}
 use Rattle.meaning.specs.Turns.{turn_of, first_of, groups_start, groups_end}
 use Rattle.meaning.specs.declared.options.SortOptions.{SortOptions}
-use Rattle.meaning.specs.Ranges.{before, target, lead, reach, range_start, range_end, InOrder}
+use Rattle.meaning.specs.Ranges.{before, lead, reach, range_start, range_end, InOrder}
 use Rattle.frame.specs.declared.bound.WindowFrameUnits.{WindowFrameUnits}
 use Rattle.frame.specs.declared.bound.WindowFrameUnits.TheVariants.{Rows, Range, Groups}
 use Rattle.frame.specs.Bounds.{causal}

@@ -1,10 +1,10 @@
 -- Edges that are counts of the lines that pass a test, and what follows for any unit.
-use Rattle.std.proofs.Common.{◌≡◌, ℕ, ◌+◌, ◌-◌, ◌<◌, ◌≤◌, min, Bool, true, false, List, length, take, drop, sym, refl, ap, ◌∙◌, arith}
+use Rattle.std.proofs.Common.{◌≡◌, ℕ, ◌+◌, ◌-◌, ◌<◌, ◌≤◌, min, Bool, true, List, length, take, drop, sym, ap, ◌∙◌, arith}
 use Rattle.std.proofs.lemmas.List.{length-take, length-take-le, length-drop}
 use Rattle.meaning.specs.Counts.{how_many, Front}
 use Rattle.meaning.specs.Lines.{Holds}
-use Rattle.meaning.specs.Edges.{Edge, Cut, Rest, Rises, Lawful, Monotone, Causal}
-use Rattle.meaning.proofs.Counts.{count_same, count_weaker, front_cut, front_rest, fails_past}
+use Rattle.meaning.specs.Edges.{Edge, Lawful, Monotone, Causal}
+use Rattle.meaning.proofs.Counts.{count_same, count_weaker, front_cut, front_rest}
 
 -- how many lines j pass a test of line i
 abbrev pub counted : {L : Type 0} → (List L → ℕ → ℕ → Bool) → Edge L

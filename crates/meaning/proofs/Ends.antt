@@ -1,14 +1,13 @@
 -- The list of turn ends.
-use Rattle.std.proofs.Common.{◌≡◌, ℕ, zero, suc, ◌+◌, ◌-◌, ◌<◌, ◌≤◌, min, Bool, true, false, cond, not, ◌||◌, eqb, ltb, leb, ◌⊎◌, List, [], ◌∷◌, ◌++◌, map, length, get_or, take, drop, count_by, filter, sym, refl, ap, ◌∙◌, subst, ⊎_elim, arith}
+use Rattle.std.proofs.Common.{◌≡◌, ℕ, zero, suc, ◌+◌, ◌-◌, ◌<◌, ◌≤◌, min, Bool, true, false, cond, ◌||◌, eqb, ltb, leb, List, [], ◌∷◌, ◌++◌, map, length, get_or, take, drop, count_by, filter, sym, refl, ap, ◌∙◌, subst, ⊎_elim, arith}
 use Rattle.std.specs.List.{range_with_len}
-use Rattle.std.proofs.lemmas.Bool.{cases_Bool, cases_lt, cases_order, ltb-true, lt-ltb, le-ltb, ne_eqb, eq-eqb, both_ways, not-false, not_from_true, le-leb, lt-leb}
+use Rattle.std.proofs.lemmas.Bool.{cases_Bool, cases_lt, lt-ltb, le-ltb, ne_eqb, eq-eqb, not-false, not_from_true, le-leb, lt-leb}
 use Rattle.std.proofs.lemmas.Bool.Decides.{nat_tests}
 use Rattle.std.proofs.lemmas.List.Elements.{filter-append}
-use Rattle.std.proofs.lemmas.List.{get_or-drop, length-drop, length-take-le, length-append, get_or_append_left, get_or_default, get_or_past, get_or_push, append-nil, length_push}
+use Rattle.std.proofs.lemmas.List.{length-drop, length-take-le, get_or_append_left, get_or_default, get_or_past, get_or_push, append-nil, length_push}
 use Rattle.std.proofs.lemmas.List.Sums.{sum_by_push}
 use Rattle.meaning.specs.Counts.{how_many}
-use Rattle.meaning.specs.Turns.{parts, turn_of, is_end, turn_ends, first_of, end_of, reached, Listed, OneTurn, EndsListed, EndsOfRest, ReachedMonotone}
-use Rattle.frame.specs.declared.bound.WindowFrameBound.{WindowFrameBound}
+use Rattle.meaning.specs.Turns.{parts, turn_of, is_end, turn_ends, first_of, end_of, OneTurn, EndsListed, EndsOfRest, ReachedMonotone}
 use Rattle.frame.specs.declared.bound.WindowFrameBound.TheVariants.{UnboundedPreceding, Preceding, CurrentRow, Following, UnboundedFollowing}
 use Rattle.meaning.proofs.Counts.{count_yes, count_no, count_longer, count_none, count_split}
 use Rattle.meaning.proofs.Turns.{parts_drop, turn_take, turn_rises}

@@ -1,19 +1,18 @@
 -- RANGE: the laws.
-use Rattle.std.proofs.Common.{◌≡◌, ℕ, zero, suc, ◌+◌, ◌-◌, ◌<◌, ◌≤◌, min, Bool, true, false, cond, not, ltb, ◌⊎◌, List, [], ◌∷◌, ◌++◌, length, get_or, take, drop, ℤ, pos, ◌+ℤ◌, ◌-ℤ◌, Some, None, count_by, sym, refl, ap, ◌∙◌, subst, inl, inr, ⊎_elim, arith}
-use lib.Signed.{lt_z}
+use Rattle.std.proofs.Common.{◌≡◌, ℕ, zero, suc, ◌+◌, ◌-◌, ◌<◌, ◌≤◌, Bool, true, false, cond, not, ltb, List, length, get_or, take, drop, ℤ, Some, None, count_by, sym, refl, ap, ◌∙◌, subst, ⊎_elim, arith}
 use Rattle.std.proofs.lemmas.Bool.{cases_Bool, cases_lt, both_ways, not-true, not-false, not_from_false, not_from_true}
-use Rattle.std.proofs.lemmas.List.{get_or-take, get_or-drop, length-take, length-take-le, length-drop, take_all}
+use Rattle.std.proofs.lemmas.List.{get_or-take, get_or-drop, take_all}
 use Rattle.std.proofs.lemmas.List.Sums.{sum_by_more}
 use Rattle.std.proofs.lemmas.Int.{ints}
 use Rattle.meaning.specs.Counts.{how_many, Front}
 use Rattle.frame.specs.declared.bound.WindowFrameBound.{WindowFrameBound}
 use Rattle.frame.specs.declared.bound.WindowFrameBound.TheVariants.{UnboundedPreceding, Preceding, CurrentRow, Following, UnboundedFollowing}
 use Rattle.meaning.specs.Lines.{Line}
-use Rattle.meaning.specs.Edges.{Edge, Lawful}
+use Rattle.meaning.specs.Edges.{Lawful}
 use Rattle.meaning.specs.declared.options.SortOptions.{SortOptions}
 use Rattle.meaning.specs.Ranges.{rank_before, back, onward, before, target, lead, reach, range_start, range_end, InOrder, RangeFronts}
 use Rattle.meaning.proofs.Counts.{fails_past, front_first}
-use Rattle.meaning.proofs.Edges.{Stands, by_test, in_words, none_lawful, all_lawful}
+use Rattle.meaning.proofs.Edges.{by_test, in_words, none_lawful, all_lawful}
 
 -- a count over a list, by places
 pub count_list : {X : Type 0} (p : X → Bool) (d : X) (xs : List X) → count_by p xs ≡ how_many (λ j. p (get_or xs j d)) (length xs)

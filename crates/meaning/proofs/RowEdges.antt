@@ -1,10 +1,10 @@
 -- ROWS: the laws.
-use Rattle.std.proofs.Common.{ℕ, ◌+◌, ◌-◌, ◌<◌, ◌≤◌, min, List, length, take, drop, arith}
+use Rattle.std.proofs.Common.{List, arith}
 use Rattle.std.proofs.lemmas.Bool.Decides.{nat_tests}
 use Rattle.std.proofs.lemmas.List.{length-take, length-drop}
 use Rattle.frame.specs.declared.bound.WindowFrameBound.{WindowFrameBound}
 use Rattle.frame.specs.declared.bound.WindowFrameBound.TheVariants.{UnboundedPreceding, Preceding, CurrentRow, Following, UnboundedFollowing}
-use Rattle.meaning.specs.Edges.{Edge, Cut, Rest, Rises, Lawful}
+use Rattle.meaning.specs.Edges.{Lawful}
 use Rattle.meaning.specs.Rows.{rows_start, rows_end}
 use Rattle.meaning.proofs.Edges.{none_lawful, all_lawful}
 

@@ -1,10 +1,7 @@
 -- Walks over lines in order.
-use Rattle.std.proofs.Common.{◌≡◌, ℕ, ◌+◌, ◌-◌, ◌<◌, ◌≤◌, Bool, true, not, ltb, List, length, get_or, None, sym, refl, ap, ◌∙◌, arith}
+use Rattle.std.proofs.Common.{ℕ, Bool, not, length, get_or, None, sym, ◌∙◌, arith}
 use Rattle.std.proofs.lemmas.Bool.{lt-ltb}
-use Rattle.meaning.specs.declared.options.SortOptions.{SortOptions}
-use Rattle.meaning.specs.Counts.{walk}
-use Rattle.meaning.specs.Lines.{Line}
-use Rattle.meaning.specs.Ranges.{before, lead, reach, InOrder, RangeWalked}
+use Rattle.meaning.specs.Ranges.{before, RangeWalked}
 use Rattle.meaning.proofs.Counts.{count_le}
 use Rattle.meaning.proofs.Ranges.{count_list, lead_front, reach_front, range_fronts}
 use Rattle.meaning.proofs.Walking.{walk_counts}

@@ -1,17 +1,16 @@
 -- Turns: the laws. Nothing is asked of sameness.
-use Rattle.std.proofs.Common.{◌≡◌, ℕ, zero, suc, ◌+◌, ◌-◌, ◌<◌, ◌≤◌, min, max, Bool, true, false, cond, not, ◌||◌, eqb, ltb, leb, ◌⊎◌, List, [], ◌∷◌, ◌++◌, length, get_or, take, drop, filter, sym, refl, ap, ◌∙◌, ⊎_elim, arith}
-use Rattle.std.proofs.lemmas.Bool.{cases_Bool, cases_lt, ltb-true, ltb-false, lt-ltb, le-ltb, ne_eqb}
+use Rattle.std.proofs.Common.{◌≡◌, ℕ, zero, suc, ◌+◌, ◌-◌, ◌<◌, ◌≤◌, Bool, true, false, cond, eqb, ltb, List, [], ◌∷◌, length, take, drop, filter, sym, refl, ap, ◌∙◌, ⊎_elim, arith}
+use Rattle.std.proofs.lemmas.Bool.{cases_lt, ltb-true, ltb-false, lt-ltb, le-ltb, ne_eqb}
 use Rattle.std.proofs.lemmas.Bool.Decides.{nat_tests}
-use Rattle.std.proofs.lemmas.List.{get_or-take, get_or-drop, length-take-le, length-take, length-drop}
+use Rattle.std.proofs.lemmas.List.{get_or-take, get_or-drop, length-take-le}
 use Rattle.std.specs.List.{range_with_len}
-use Rattle.meaning.specs.Counts.{how_many, Front}
+use Rattle.meaning.specs.Counts.{Front}
 use Rattle.frame.specs.declared.bound.WindowFrameBound.{WindowFrameBound}
 use Rattle.frame.specs.declared.bound.WindowFrameBound.TheVariants.{UnboundedPreceding, Preceding, CurrentRow, Following, UnboundedFollowing}
-use Rattle.meaning.specs.Lines.{Holds}
-use Rattle.meaning.specs.Edges.{Edge, Lawful}
-use Rattle.meaning.specs.Turns.{parts, turn_of, is_end, turn_ends, first_of, end_of, groups_start, groups_end, EndsOfFront, GroupsLawful, GroupsMonotone, GroupsCausal}
-use Rattle.meaning.proofs.Counts.{count_longer, count_weaker, count_same, count_le, count_none, count_split, front_cut, front_rest, front_first, fails_past}
-use Rattle.meaning.proofs.Edges.{Stands, by_test, in_words, none_lawful, all_lawful, monotone, causal}
+use Rattle.meaning.specs.Edges.{Lawful}
+use Rattle.meaning.specs.Turns.{parts, turn_of, is_end, first_of, end_of, groups_start, groups_end, EndsOfFront, GroupsLawful, GroupsMonotone, GroupsCausal}
+use Rattle.meaning.proofs.Counts.{count_longer, count_same, count_none, count_split, front_first, fails_past}
+use Rattle.meaning.proofs.Edges.{by_test, in_words, none_lawful, all_lawful, monotone, causal}
 
 module _ {L : Type 0} (none : L) (same : L → L → Bool) (F : List L) where
   -- a line of a front stands in the turn in which it stands over all

@@ -1,5 +1,5 @@
 -- How many numbers pass a test.
-use Rattle.std.specs.Prelude.{◌≡◌, ℕ, zero, suc, ◌+◌, ◌-◌, ◌<◌, ◌≤◌, Bool, true, false, cond}
+use Rattle.std.specs.Prelude.{◌≡◌, ℕ, zero, suc, ◌+◌, ◌-◌, ◌<◌, ◌≤◌, Bool, true, cond}
 
 -- how many of the numbers below n pass
 abbrev pub how_many : (ℕ → Bool) → ℕ → ℕ

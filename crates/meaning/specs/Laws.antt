@@ -3,7 +3,7 @@ use Rattle.std.specs.Prelude.{◌≡◌, ℕ, ◌+◌, ◌-◌, ◌<◌, ◌≤�
 use Rattle.frame.specs.declared.bound.WindowFrameBound.{WindowFrameBound}
 use Rattle.frame.specs.declared.bound.WindowFrameBound.TheVariants.{UnboundedPreceding, Preceding}
 use Rattle.frame.specs.declared.bound.WindowFrameUnits.{WindowFrameUnits}
-use Rattle.frame.specs.declared.bound.WindowFrameUnits.TheVariants.{Rows, Range, Groups}
+use Rattle.frame.specs.declared.bound.WindowFrameUnits.TheVariants.{Range}
 use Rattle.frame.specs.Bounds.{causal}
 use Rattle.meaning.specs.declared.options.SortOptions.{SortOptions}
 use Rattle.meaning.specs.Lines.{Line, Holds}

@@ -1,10 +1,9 @@
 -- Turns, longest stretches of neighbouring lines that are the same, and the GROUPS window.
-use Rattle.std.specs.Prelude.{◌≡◌, ℕ, ◌+◌, ◌-◌, ◌<◌, ◌≤◌, min, Bool, true, false, cond, not, ◌||◌, ltb, List, [], ◌∷◌, ◌++◌, map, length, take, drop, count_by, filter, ◌==◌, nat_le, nat_lt, slice_index_or}
+use Rattle.std.specs.Prelude.{◌≡◌, ℕ, ◌+◌, ◌-◌, ◌<◌, ◌≤◌, min, Bool, true, cond, not, ◌||◌, ltb, List, ◌∷◌, ◌++◌, map, length, take, drop, count_by, filter, ◌==◌, nat_le, nat_lt, slice_index_or}
 use Rattle.std.specs.List.{range_with_len}
 use Rattle.meaning.specs.Counts.{how_many}
 use Rattle.frame.specs.declared.bound.WindowFrameBound.{WindowFrameBound}
 use Rattle.frame.specs.declared.bound.WindowFrameBound.TheVariants.{UnboundedPreceding, Preceding, CurrentRow, Following, UnboundedFollowing}
-use Rattle.meaning.specs.Lines.{Holds}
 use Rattle.meaning.specs.Edges.{Edge, Lawful, Monotone, Causal}
 
 -- same says which lines are the same; none is any line

@@ -1,11 +1,9 @@
 -- What a slice pattern takes is what `number` says.
-use Rattle.std.proofs.Common.{◌≡◌, ℕ, ◌+◌, ◌-◌, ◌*◌, ◌<◌, ◌≤◌, Bool, true, false, cond, leb, List, [], ◌∷◌, length, get_or, take, drop, Some, None, Ok, Err, Option, Result, sym, refl, ap, ◌∙◌, arith, le-leb}
+use Rattle.std.proofs.Common.{◌≡◌, ℕ, ◌+◌, ◌-◌, ◌*◌, ◌<◌, ◌≤◌, Bool, true, false, List, [], ◌∷◌, length, get_or, take, drop, Some, Ok, Err, arith, le-leb}
 use borrow.Author.Tests.{lt-leb}
-use Rattle.std.proofs.lemmas.Bool.{cond-true, cond-false}
 use Rattle.std.proofs.lemmas.List.{take_rest}
-use Rattle.packed.specs.declared.line.LineFault.{LineFault}
-use Rattle.packed.specs.declared.line.LineFault.TheVariants.{UnknownBits, CutShort}
-use Rattle.packed.specs.Fields.{little, number, field, text_of}
+use Rattle.packed.specs.declared.line.LineFault.TheVariants.{CutShort}
+use Rattle.packed.specs.Fields.{little, field, text_of}
 
 -- a field whose bit stands, taken by a pattern of n bytes and the rest
 pub taken : (s : Bool) (n v : ℕ) (bs : List ℕ) → s ≡ true → n ≤ length bs → v ≡ little (take n bs) → Ok (Some v, take (length bs - n) (drop n bs)) ≡ field s n bs

@@ -1,14 +1,11 @@
 -- One step of the second pass.
-use Rattle.std.proofs.Common.{◌≡◌, ℕ, zero, suc, ◌+◌, ◌-◌, ◌*◌, ◌<◌, ◌≤◌, Bool, true, false, cond, not, ◌&&◌, ◌⊎◌, List, [], ◌∷◌, ◌++◌, length, get_or, take, drop, set, is_ok, Ok, Err, Result, sym, refl, ap, ◌∙◌, subst, inl, inr, append_assoc, arith}
+use Rattle.std.proofs.Common.{◌≡◌, ℕ, ◌+◌, ◌-◌, ◌<◌, ◌≤◌, true, false, List, [], ◌∷◌, ◌++◌, length, get_or, take, drop, set, is_ok, Ok, Err, Result, sym, refl, ap, ◌∙◌, inl, inr, append_assoc, arith}
 use Rattle.std.proofs.lemmas.List.{drop_more, drop_all, take_all, take-append-drop, take_more_set, drop-set-lt, append-nil}
 use Rattle.std.proofs.lemmas.Bool.{cases_lt, true≢false}
 use Rattle.packed.specs.declared.line.LineFault.{LineFault}
-use Rattle.packed.specs.declared.line.LineFault.TheVariants.{UnknownBits, CutShort}
 use Rattle.packed.specs.Fields.{Line, line_of}
 use Rattle.packed.proofs.Tails.{line_tail}
-use Rattle.frame.specs.declared.refusal.Refusal.{Refusal}
-use Rattle.frame.specs.declared.refusal.Reason.TheVariants as reasons
-use Rattle.packed.specs.Scans.{walk_of, filled, by_line, refuse, reason_of}
+use Rattle.packed.specs.Scans.{walk_of, filled}
 use Rattle.packed.proofs.Walks.{far, on}
 
 cons_line : (e : ℕ) (es : List ℕ) (at : ℕ) (r : List ℕ) (x : Line × List ℕ) → Ok x ≡ line_of r → filled (e ∷ es) at r ≡ at ∷ filled es (at + (length r - length x.1)) x.1

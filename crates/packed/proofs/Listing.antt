@@ -1,5 +1,5 @@
 -- A scan and the relation between bytes and lists of lines agree.
-use Rattle.std.proofs.Common.{◌≡◌, ℕ, zero, suc, ◌+◌, ◌-◌, ◌^◌, ◌<◌, ◌≤◌, Bool, true, false, cond, not, ◌&&◌, eqb, ltb, leb, List, [], ◌∷◌, ◌++◌, length, get_or, take, drop, is_ok, Ok, Err, Result, sym, refl, ap, ◌∙◌, subst, arith, length-append}
+use Rattle.std.proofs.Common.{◌≡◌, ℕ, zero, suc, ◌+◌, ◌-◌, ◌^◌, ◌<◌, ◌≤◌, Bool, true, false, cond, ltb, leb, List, [], ◌∷◌, ◌++◌, length, get_or, take, drop, is_ok, Ok, Err, Result, sym, refl, ap, ◌∙◌, subst, arith, length-append}
 use Rattle.std.proofs.lemmas.List.{take-append-le, take_all}
 use Rattle.std.proofs.lemmas.Bool.{ltb-true, leb-true, le-leb}
 use Rattle.std.specs.List.{AllByRecursion as All}
@@ -12,7 +12,6 @@ use Rattle.packed.specs.Scans.{by_line, refuse, reason_of, walk_of, limited, sca
 use Rattle.packed.specs.Views.{first_lines}
 use Rattle.packed.specs.Spells.{LineBytes, LinesAt, none, line, Room, Listed, Scanned}
 use Rattle.packed.proofs.Spelled.{line_read, line_from}
-use Rattle.packed.proofs.Tails.{line_tail}
 use Rattle.packed.proofs.Walks.{one_of, near}
 
 -- every element is a byte

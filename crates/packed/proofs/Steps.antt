@@ -1,9 +1,8 @@
 -- The fields taken one after another are the line.
-use Rattle.std.proofs.Common.{◌≡◌, ℕ, ◌+◌, ◌-◌, ◌*◌, ◌<◌, ◌≤◌, Bool, true, false, cond, leb, List, [], ◌∷◌, length, get_or, take, drop, Some, None, Ok, Err, Option, Result, sym, refl, ap, ◌∙◌, arith}
+use Rattle.std.proofs.Common.{◌≡◌, ℕ, ◌-◌, ◌≤◌, false, List, [], ◌∷◌, length, get_or, take, drop, Ok, Err, Option, Result, sym, ap, arith}
 use Rattle.std.proofs.lemmas.List.{take_rest}
 use Rattle.packed.specs.declared.line.LineFault.{LineFault}
-use Rattle.packed.specs.declared.line.LineFault.TheVariants.{UnknownBits, CutShort}
-use Rattle.packed.specs.Fields.{Line, little, number, field, text_of, stands, line_of, next}
+use Rattle.packed.specs.Fields.{Line, field, text_of, stands, line_of, next}
 
 -- what `next` goes on with
 pub go : {A B : Type 0} (r : Result A LineFault) (x : A) (f : A → Result B LineFault) → Ok x ≡ r → next r f ≡ f x

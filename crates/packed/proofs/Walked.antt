@@ -1,13 +1,12 @@
 -- A walk that came to its end: the lines that the table shows are those of the bytes.
-use Rattle.std.proofs.Common.{◌≡◌, ℕ, zero, suc, ◌+◌, ◌-◌, ◌<◌, ◌≤◌, Bool, true, false, cond, not, ◌&&◌, eqb, ltb, leb, List, [], ◌∷◌, map, length, get_or, drop, Some, None, Ok, Err, Option, Result, sym, refl, ap, ◌∙◌, arith, eqb-true}
+use Rattle.std.proofs.Common.{◌≡◌, ℕ, zero, suc, ◌+◌, ◌-◌, ◌<◌, ◌≤◌, Bool, true, false, cond, not, ◌&&◌, eqb, ltb, List, [], ◌∷◌, map, length, get_or, drop, Some, Ok, Err, Option, Result, sym, refl, ap, ◌∙◌, arith, eqb-true}
 use Rattle.std.proofs.lemmas.List.{drop-drop}
 use Rattle.packed.specs.declared.line.LineFault.{LineFault}
 use Rattle.packed.specs.Fields.{Line, line_of}
 use Rattle.packed.proofs.Tails.{line_tail}
 use Rattle.frame.specs.declared.refusal.Refusal.{Refusal}
 use Rattle.frame.specs.declared.refusal.Reason.TheVariants as reasons
-use Rattle.transcript.specs.Lines.{too_many}
-use Rattle.packed.specs.Scans.{walk_of, limited, by_line, refuse, reason_of}
+use Rattle.packed.specs.Scans.{walk_of, by_line, refuse, reason_of}
 use Rattle.packed.specs.Views.{first_lines, behind, at_place, by_places}
 
 same_entry : (c : Bool) (d : Refusal) (w : Result ℕ Refusal) (m : ℕ) → cond (true && not c) (Err d) w ≡ Ok m → (c ≡ true) × (w ≡ Ok m)

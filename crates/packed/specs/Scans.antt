@@ -7,7 +7,7 @@ use Rattle.frame.specs.declared.refusal.Layer.TheVariants as layers
 use Rattle.transcript.specs.Lines.{too_many}
 use Rattle.packed.specs.declared.line.LineFault.{LineFault}
 use Rattle.packed.specs.declared.line.LineFault.TheVariants.{UnknownBits, CutShort}
-use Rattle.packed.specs.Fields.{Line, line_of}
+use Rattle.packed.specs.Fields.{line_of}
 
 -- a refusal of the transcript layer
 abbrev pub refuse : Reason → ℕ → Refusal

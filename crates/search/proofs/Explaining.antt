@@ -5,7 +5,7 @@ use Rattle.frame.specs.declared.bound.WindowFrameBound.{WindowFrameBound}
 use Rattle.frame.specs.declared.bound.WindowFrameBound.TheVariants.{UnboundedPreceding, Preceding, CurrentRow, Following, UnboundedFollowing}
 use Rattle.meaning.specs.declared.options.SortOptions.{SortOptions}
 use Rattle.meaning.specs.Clause.{same_line}
-use Rattle.meaning.specs.Counts.{how_many, how_many_from}
+use Rattle.meaning.specs.Counts.{how_many_from}
 use Rattle.meaning.specs.Lines.{Line, ranked}
 use Rattle.meaning.specs.Ranges.{target, lead, reach, range_start, range_end}
 use Rattle.search.specs.Tests.{led, reached_at}

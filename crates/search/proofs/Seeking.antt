@@ -1,13 +1,12 @@
 -- A view's tests and the lists of its lines.
-use Rattle.std.proofs.Common.{◌≡◌, ℕ, zero, suc, ◌+◌, ◌-◌, ◌<◌, ◌≤◌, Bool, true, false, cond, not, ltb, List, [], ◌∷◌, map, length, get_or, ℤ, Some, None, Option, sym, refl, ap, ◌∙◌, subst, ⊎_elim, arith}
+use Rattle.std.proofs.Common.{◌≡◌, ℕ, zero, suc, ◌+◌, ◌-◌, ◌<◌, ◌≤◌, Bool, true, false, cond, not, ltb, List, [], ◌∷◌, length, get_or, ℤ, None, Option, sym, refl, ap, ◌∙◌, subst, ⊎_elim, arith}
 use Rattle.std.specs.Option.{option_map}
 use Rattle.std.proofs.lemmas.List.{length-map}
 use Rattle.std.proofs.lemmas.Bool.{cases_Bool, cases_lt, lt-ltb, le-ltb, not-true, not-false}
-use Rattle.transcript.specs.Lines.{at_line}
-use Rattle.meaning.specs.Counts.{how_many, Front, how_many_from, walk}
+use Rattle.meaning.specs.Counts.{how_many_from, walk}
 use Rattle.meaning.specs.Lines.{Line, ranked}
 use Rattle.meaning.specs.Clause.{same_line}
-use Rattle.meaning.specs.Turns.{parts, turn_of, first_of, end_of}
+use Rattle.meaning.specs.Turns.{parts, turn_of, end_of}
 use Rattle.search.specs.Tests.{line_at, alike, parts_at}
 use Rattle.search.specs.Views.{total_of, turn_at, turn_begins}
 use Rattle.meaning.proofs.Counts.{count_same, count_yes, count_no, found}

@@ -1,6 +1,6 @@
 -- Turns and windows over a view's lines, by line numbers.
 use Rattle.std.specs.Prelude.{◌≡◌, ℕ, ◌+◌, ◌-◌, ◌<◌, ◌≤◌, cond, ◌&&◌, List, length, ℤ, Some, None, Option, nat_le, nat_lt}
-use Rattle.meaning.specs.Lines.{Line, ranked}
+use Rattle.meaning.specs.Lines.{ranked}
 use Rattle.meaning.specs.Turns.{turn_of, first_of, end_of}
 use Rattle.frame.specs.Frames.{Frame}
 use Rattle.meaning.specs.declared.options.SortOptions.{SortOptions}

@@ -1,5 +1,5 @@
 -- What the checks of a question and of a filing tell.
-use Rattle.std.proofs.Common.{◌≡◌, ℕ, zero, suc, ◌+◌, ◌-◌, ◌<◌, ◌≤◌, max, Bool, true, false, cond, not, eqb, ltb, leb, ◌⊎◌, List, length, get_or, take, drop, Some, None, Ok, Err, Option, Result, sym, refl, ap, ◌∙◌, subst, inl, inr, ⊎_elim, arith}
+use Rattle.std.proofs.Common.{◌≡◌, ℕ, zero, suc, ◌+◌, ◌-◌, ◌<◌, ◌≤◌, Bool, true, false, cond, not, eqb, ltb, leb, ◌⊎◌, List, length, get_or, take, drop, Some, None, Ok, Err, Option, sym, refl, ap, ◌∙◌, subst, inl, inr, ⊎_elim, arith}
 use Rattle.std.specs.Option.{option_map}
 use Rattle.std.proofs.lemmas.Bool.{cases_Bool, cases_lt, eqb-true, leb-false, ltb-false, le-ltb, not-false, not-true}
 use Rattle.std.proofs.lemmas.List.{get_or-take, get_or-drop}
@@ -12,7 +12,7 @@ use Rattle.meaning.specs.Lines.{Line}
 use Rattle.meaning.specs.Ranges.{before}
 use Rattle.search.specs.Views.{if_below}
 use Rattle.sitting.specs.State.{Grant, limit}
-use Rattle.sitting.specs.Rules.{disorder, order_fault, fault, answered, settled, or_else, file_fault}
+use Rattle.sitting.specs.Rules.{disorder, order_fault, fault, answered, or_else, file_fault}
 use Rattle.sitting.specs.Tracks.{Stretch}
 
 pub cases_option : {X : Type 0} (o : Option X) → ((x : X) × (o ≡ Some x)) ⊎ (o ≡ None)

@@ -1,11 +1,11 @@
 -- The first question of a fresh tracker.
-use Rattle.std.proofs.Common.{◌≡◌, ℕ, ◌+◌, List, length, Some, None, Result, sym, refl, ap, ◌∙◌, subst, ⊎_elim, arith}
+use Rattle.std.proofs.Common.{◌≡◌, ℕ, List, length, Some, None, Result, sym, ap, ◌∙◌, subst, ⊎_elim, arith}
 use Rattle.std.proofs.lemmas.List.{take_all}
 use Rattle.frame.specs.declared.refusal.Refusal.{Refusal}
 use Rattle.meaning.specs.Lines.{Line}
 use Rattle.sitting.specs.State.{State}
 use Rattle.sitting.specs.Rules.{fault, short, needed, granted, or_else, answered, settled, moved_on}
-use Rattle.sitting.specs.Tracks.{Stretch, Fresh, at_first}
+use Rattle.sitting.specs.Tracks.{Stretch, at_first}
 use Rattle.sitting.specs.Calls.{Window, FirstWindow}
 use Rattle.sitting.proofs.Checks.{cases_option, clear}
 

@@ -1,11 +1,10 @@
 -- A granted question over a stretch, and a filing, keep what a tracker holds of a finished transcript.
-use Rattle.std.proofs.Common.{◌≡◌, ℕ, ◌+◌, ◌-◌, ◌<◌, ◌≤◌, max, true, false, List, [], length, get_or, take, drop, None, sym, refl, ap, ◌∙◌, subst, ⊎_elim, arith}
+use Rattle.std.proofs.Common.{◌≡◌, ℕ, ◌+◌, ◌-◌, ◌<◌, ◌≤◌, max, List, [], length, get_or, take, drop, None, sym, refl, ap, ◌∙◌, subst, ⊎_elim, arith}
 use Rattle.std.proofs.lemmas.Bool.{cases_lt}
 use Rattle.std.proofs.lemmas.List.{get_or-take, length-append, length-take-le, take_at, take-take}
 use Rattle.frame.specs.declared.bound.WindowFrameBound.{WindowFrameBound}
 use Rattle.frame.specs.declared.bound.WindowFrameUnits.{WindowFrameUnits}
 use Rattle.frame.specs.declared.bound.WindowFrameUnits.TheVariants.{Rows, Range, Groups}
-use Rattle.frame.specs.Frames.{Frame}
 use Rattle.meaning.specs.declared.options.SortOptions.{SortOptions}
 use Rattle.meaning.specs.Lines.{Line}
 use Rattle.meaning.specs.Ranges.{before, InOrder}
@@ -13,10 +12,10 @@ use Rattle.meaning.specs.Clause.{same_line, starts, ends, window, Fit}
 use Rattle.meaning.proofs.Clause.{clause_monotone}
 use Rattle.meaning.proofs.Table.{table_filed}
 use Rattle.transcript.specs.Lines.{at_line}
-use Rattle.sitting.specs.Tables.{above, in_front}
-use Rattle.sitting.specs.State.{Grant, State, none_yet, limit}
-use Rattle.sitting.specs.Rules.{order_fault, entries, reach, staying, shown, needed, moved_on, filed_to, file_fault}
-use Rattle.sitting.specs.Tracks.{Stretch, Fresh, Follows, Tracks, at_first, since}
+use Rattle.sitting.specs.Tables.{in_front}
+use Rattle.sitting.specs.State.{Grant, State, limit}
+use Rattle.sitting.specs.Rules.{order_fault, entries, reach, staying, needed, moved_on, filed_to, file_fault}
+use Rattle.sitting.specs.Tracks.{Stretch, Follows, Tracks, at_first, since}
 use Rattle.sitting.proofs.Checks.{Clear, in_order_from, not_mapped, shows, file_clear}
 
 -- what stands in front of a list

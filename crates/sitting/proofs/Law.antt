@@ -1,5 +1,5 @@
 -- The law over sittings, by induction over the calls.
-use Rattle.std.proofs.Common.{◌≡◌, ℕ, ◌+◌, ◌-◌, ◌<◌, ◌≤◌, max, Bool, true, false, cond, not, ltb, List, [], ◌∷◌, length, take, drop, Some, None, Ok, Err, filter, Option, Result, sym, refl, ap, ◌∙◌, subst, ⊎_elim, arith}
+use Rattle.std.proofs.Common.{◌≡◌, ℕ, ◌+◌, ◌<◌, ◌≤◌, max, true, cond, not, ltb, List, [], ◌∷◌, length, take, drop, Some, None, Ok, Err, filter, Result, sym, refl, ap, ◌∙◌, subst, ⊎_elim, arith}
 use Rattle.std.proofs.lemmas.Bool.{cases_lt, lt-ltb}
 use Rattle.std.proofs.lemmas.List.Filters.{length-filter_both}
 use Rattle.std.proofs.lemmas.List.{length-append, length-drop, length-take, take_all}
@@ -12,18 +12,18 @@ use Rattle.frame.specs.declared.refusal.Reason.TheVariants.{TurnTableShort}
 use Rattle.frame.specs.Frames.{Frame}
 use Rattle.frame.specs.Bounds.{causal}
 use Rattle.meaning.specs.declared.options.SortOptions.{SortOptions}
-use Rattle.meaning.specs.Lines.{Line, Holds}
+use Rattle.meaning.specs.Lines.{Line}
 use Rattle.meaning.specs.Turns.{reached}
 use Rattle.meaning.specs.Clause.{same_line, window, Fit, Settled}
 use Rattle.meaning.proofs.Ends.{reached_monotone}
 use Rattle.meaning.proofs.Clause.{clause_causal}
 use Rattle.sitting.specs.Tables.{in_front}
-use Rattle.sitting.specs.State.{Grant, State, none_yet, fresh}
-use Rattle.sitting.specs.Rules.{refuse, fault, reach, entries, short, or_else, answered, settled, staying, needed, due, granted, answer, moved_on, next, filing, file_fault, filed_to}
-use Rattle.sitting.specs.Tracks.{Stretch, Fresh, Follows, Tracks, at_first, since}
+use Rattle.sitting.specs.State.{Grant, State, fresh}
+use Rattle.sitting.specs.Rules.{refuse, fault, reach, entries, short, or_else, answered, settled, staying, needed, due, granted, answer, moved_on, file_fault, filed_to}
+use Rattle.sitting.specs.Tracks.{Stretch, Tracks, at_first, since}
 use Rattle.sitting.specs.Calls.{Window, Filing, Passed}
-use Rattle.sitting.specs.Sittings.{Event, asked, put, Step, Sitting, opened, called, last_grant, filed_count, WhenGranted, EachGranted, AllStretches, furthest, wanted, OnlyShort, QuestionDue, EachDue, NotBefore, SameLines, Upheld, SittingLaw}
-use Rattle.sitting.proofs.Checks.{Clear, clear, cases_option, answered_ok, answered_err, neither, file_clear}
+use Rattle.sitting.specs.Sittings.{Event, asked, put, Step, Sitting, opened, called, last_grant, filed_count, WhenGranted, EachGranted, AllStretches, furthest, wanted, OnlyShort, QuestionDue, EachDue, NotBefore, SameLines, SittingLaw}
+use Rattle.sitting.proofs.Checks.{Clear, clear, cases_option, answered_ok, answered_err, neither}
 use Rattle.sitting.proofs.Following.{follows_on, tracks_filed, onward, unfiled}
 
 -- what is said of each granted question, weaker

@@ -1,9 +1,9 @@
 -- What a question under GROUPS needs, writes and reads.
-use Rattle.std.proofs.Common.{◌≡◌, ℕ, ◌+◌, ◌-◌, ◌<◌, ◌≤◌, max, List, ◌++◌, map, length, get_or, take, drop, ℤ, None, Option, sym, refl, ap, ◌∙◌, ⊎_elim, arith}
+use Rattle.std.proofs.Common.{◌≡◌, ℕ, ◌+◌, ◌-◌, ◌<◌, ◌≤◌, List, ◌++◌, length, get_or, take, drop, ℤ, None, Option, ap, ◌∙◌, ⊎_elim, arith}
 use Rattle.std.specs.List.{range_with_len, AllByRecursion as All}
 use Rattle.std.proofs.lemmas.Bool.{cases_lt}
 use Rattle.std.proofs.ByRecursion.{All-get_or, all_kept_by, All-map, All-weaker}
-use Rattle.std.proofs.lemmas.List.{get_or_append_left, get_or-append_right, get_or-take, length-append, length-drop, length-take-le, take_at}
+use Rattle.std.proofs.lemmas.List.{get_or_append_left, get_or-append_right, get_or-take, length-drop, length-take-le, take_at}
 use Rattle.frame.specs.declared.bound.WindowFrameBound.{WindowFrameBound}
 use Rattle.meaning.specs.Lines.{ranked}
 use Rattle.meaning.specs.Turns.{is_end, turn_ends, last_held}
@@ -15,7 +15,7 @@ use Rattle.sitting.specs.Tables.{in_front}
 use Rattle.tracker.specs.Walks.{ends_from, all_ends}
 use Rattle.tracker.specs.Ends.{Held, entry_of, start_by, end_by, needed}
 use Rattle.tracker.proofs.Rising.{rise_get}
-use Rattle.tracker.proofs.Holding.{is_last, above_first}
+use Rattle.tracker.proofs.Holding.{is_last}
 use Rattle.tracker.proofs.Enough.{enough}
 use Rattle.tracker.proofs.Finding.{place_low, few, most, below_all}
 use Rattle.tracker.proofs.Finding as finding

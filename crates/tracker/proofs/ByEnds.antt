@@ -6,7 +6,7 @@ use Rattle.std.proofs.lemmas.Bool.{cases_lt, lt-ltb, le-ltb}
 use Rattle.std.proofs.lemmas.List.Sums.{sum_by-cons}
 use Rattle.frame.specs.declared.bound.WindowFrameBound.{WindowFrameBound}
 use Rattle.frame.specs.declared.bound.WindowFrameBound.TheVariants.{UnboundedPreceding, Preceding, CurrentRow, Following, UnboundedFollowing}
-use Rattle.meaning.specs.Turns.{turn_of, first_of, end_of, turn_ends, groups_start, groups_end, reached, Listed}
+use Rattle.meaning.specs.Turns.{turn_of, first_of, end_of, turn_ends, groups_start, groups_end, reached}
 use Rattle.meaning.proofs.Ends.{ends_listed}
 use Rattle.tracker.specs.Ends.{entry_of, begins, stops, start_by, end_by, reach_by, ReadOff}
 

@@ -1,22 +1,18 @@
 -- What is found for a question over a stretch of a finished transcript is what the rules give.
-use Rattle.std.proofs.Common.{◌≡◌, ℕ, zero, suc, ◌+◌, ◌-◌, ◌<◌, ◌≤◌, max, Bool, true, false, cond, not, ltb, List, [], ◌++◌, map, length, get_or, take, drop, Some, None, sym, refl, ap, ◌∙◌, subst, ⊎_elim, arith}
+use Rattle.std.proofs.Common.{◌≡◌, ℕ, zero, suc, ◌+◌, ◌-◌, ◌<◌, ◌≤◌, max, Bool, cond, not, List, [], ◌++◌, map, length, get_or, take, drop, None, sym, refl, ap, ◌∙◌, arith}
 use lib.ListN.{length-map}
-use Rattle.std.proofs.lemmas.Bool.{le-ltb, lt-ltb, cases_lt}
-use Rattle.std.proofs.lemmas.List.{drop-take, length-take, length-take-le, length-drop, take-map, take-take}
+use Rattle.std.proofs.lemmas.List.{drop-take, length-take, length-take-le, take-map, take-take}
 use Rattle.frame.specs.declared.bound.WindowFrameBound.{WindowFrameBound}
 use Rattle.frame.specs.declared.bound.WindowFrameBound.TheVariants.{UnboundedPreceding, Preceding, CurrentRow, Following, UnboundedFollowing}
-use Rattle.frame.specs.declared.bound.WindowFrameUnits.{WindowFrameUnits}
-use Rattle.frame.specs.declared.bound.WindowFrameUnits.TheVariants.{Rows, Range, Groups}
-use Rattle.frame.specs.declared.refusal.Reason.TheVariants.{TurnTableShort}
+use Rattle.frame.specs.declared.bound.WindowFrameUnits.TheVariants.{Groups}
 use Rattle.frame.specs.Frames.{Frame}
 use Rattle.transcript.specs.Lines.{at_line}
 use Rattle.meaning.specs.declared.options.SortOptions.{SortOptions}
 use Rattle.meaning.specs.Counts.{walk}
 use Rattle.meaning.specs.Lines.{Line}
-use Rattle.meaning.specs.Rows.{row_start, row_end}
 use Rattle.meaning.specs.Ranges.{before, target, lead, reach, range_start, range_end, InOrder}
 use Rattle.meaning.specs.Turns.{turn_of, turn_ends, reached, groups_start, groups_end, table, last_held, grown}
-use Rattle.meaning.specs.Clause.{same_line, starts, ends, window}
+use Rattle.meaning.specs.Clause.{same_line}
 use Rattle.meaning.proofs.Clause.{clause_view}
 use Rattle.meaning.proofs.Ends.{many_ends, reached_monotone}
 use Rattle.meaning.proofs.Growing.{ends_grow, table_grows}
@@ -25,11 +21,10 @@ use Rattle.meaning.proofs.Table.{table_rest, reached_rest}
 use Rattle.meaning.proofs.Turns.{turn_take, turn_rises}
 use Rattle.sitting.specs.Rules.{refuse, short, entries}
 use Rattle.sitting.specs.Rules as rules
-use Rattle.sitting.specs.Tables.{in_front}
 use Rattle.sitting.specs.State.{Grant, State}
-use Rattle.sitting.specs.Tracks.{Stretch, Fresh, Follows, Tracks, at_first, since}
+use Rattle.sitting.specs.Tracks.{Stretch, Tracks, at_first, since}
 use Rattle.sitting.proofs.Checks.{Clear, shows}
-use Rattle.sitting.proofs.Following.{fits, onward, unfiled}
+use Rattle.sitting.proofs.Following.{unfiled}
 use Rattle.tracker.specs.Ends.{entry_of, start_by, end_by, reach_by, needed}
 use Rattle.tracker.specs.Edges.{lead_from, reach_from, start_from, end_from}
 use Rattle.tracker.specs.Asking.{given_ends}

@@ -1,7 +1,7 @@
 -- From what is found for a question to the contract of a window.
-use Rattle.std.proofs.Common.{◌≡◌, ℕ, ◌+◌, ◌-◌, ◌<◌, ◌≤◌, Bool, true, false, cond, ltb, List, [], length, get_or, take, drop, ℤ, Some, None, Ok, Err, Option, Result, sym, refl, ap, ◌∙◌, subst, ⊎_elim, arith}
+use Rattle.std.proofs.Common.{◌≡◌, ℕ, ◌+◌, ◌<◌, ◌≤◌, cond, List, length, take, drop, Some, None, Ok, Err, Option, sym, refl, ap, ◌∙◌, subst, arith}
 use Rattle.std.proofs.lemmas.Bool.{le-ltb, lt-ltb}
-use Rattle.std.proofs.lemmas.List.{drop_at, length-take-le}
+use Rattle.std.proofs.lemmas.List.{length-take-le}
 use Rattle.frame.specs.declared.bound.WindowFrameBound.{WindowFrameBound}
 use Rattle.frame.specs.declared.bound.WindowFrameUnits.{WindowFrameUnits}
 use Rattle.frame.specs.declared.bound.WindowFrameUnits.TheVariants.{Rows, Range, Groups}
@@ -15,14 +15,12 @@ use Rattle.sitting.specs.Tables.{in_front}
 use Rattle.sitting.specs.State.{Grant, State}
 use Rattle.sitting.specs.Rules.{refuse, short, or_else, answered, settled, granted, moved_on}
 use Rattle.sitting.specs.Rules as rules
-use Rattle.sitting.specs.Tracks.{Stretch, Follows, Tracks, at_first, since}
+use Rattle.sitting.specs.Tracks.{Stretch, Tracks, at_first, since}
 use Rattle.sitting.specs.Calls.{Uses, Window}
 use Rattle.sitting.proofs.Checks.{Clear, clear}
 use Rattle.sitting.proofs.Following.{fits, onward, unfiled}
 use Rattle.tracker.specs.declared.asking.Answered.{Answered}
-use Rattle.tracker.specs.Ends.{needed, entry_of}
-use Rattle.tracker.specs.Edges.{start_from, end_from}
-use Rattle.tracker.specs.Asking.{Answers, Plainly, Finds, given_ends}
+use Rattle.tracker.specs.Asking.{Plainly, Finds}
 use Rattle.tracker.proofs.Exact.{starts_there, ends_there, start_is, end_is, needs_so_many, needs_these}
 
 -- what is found is what the rules grant

@@ -1,11 +1,11 @@
 -- The entries in use, read off the table.
-use Rattle.std.proofs.Common.{◌≡◌, ℕ, ◌+◌, ◌-◌, ◌<◌, ◌≤◌, Bool, true, leb, List, ◌∷◌, map, length, get_or, take, sym, refl, ap, ◌∙◌, ⊎_elim, arith}
+use Rattle.std.proofs.Common.{◌≡◌, ℕ, ◌+◌, ◌-◌, ◌<◌, ◌≤◌, Bool, true, leb, List, map, length, get_or, take, sym, ap, ◌∙◌, ⊎_elim, arith}
 use Rattle.std.proofs.lemmas.Bool.{cases_lt, le-leb, leb-true}
 use lib.ListN.{length-map}
 use Rattle.std.proofs.lemmas.List.{get_or-take, get_or_default, length-take-le}
 use Rattle.meaning.specs.Turns.{last_held}
 use Rattle.meaning.specs.Counts.{walk, how_many}
-use Rattle.meaning.specs.Turns.{turn_of, turn_ends}
+use Rattle.meaning.specs.Turns.{turn_ends}
 use Rattle.meaning.proofs.Counts.{count_same}
 use Rattle.meaning.proofs.Ranges.{count_list}
 use Rattle.meaning.proofs.Turns.{turn_rises}
@@ -13,7 +13,7 @@ use Rattle.meaning.proofs.Ends.{many_ends}
 use Rattle.meaning.proofs.Walking.{walk_counts}
 use Rattle.tracker.specs.Walks.{Rise}
 use Rattle.tracker.specs.Ends.{Held, entry_of}
-use Rattle.tracker.proofs.Rising.{none_below, counted_out, ends_rise, rise_above, rise_get, rise_take, rise_long}
+use Rattle.tracker.proofs.Rising.{none_below, counted_out, ends_rise, rise_get, rise_long}
 use Rattle.tracker.proofs.ByEnds.{is_entry}
 use Rattle.tracker.proofs.Telling.{rise_last, none_held}
 

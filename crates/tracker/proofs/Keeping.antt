@@ -1,8 +1,8 @@
 -- What holds of a tracker goes on to hold.
-use Rattle.std.proofs.Common.{◌≡◌, ℕ, zero, suc, ◌+◌, ◌-◌, ◌<◌, ◌≤◌, min, Bool, true, false, cond, not, ltb, leb, List, [], ◌∷◌, ◌++◌, length, get_or, take, drop, ℤ, None, Ok, filter, Option, sym, refl, ap, ◌∙◌, subst, ⊎_elim, arith}
-use Rattle.std.proofs.lemmas.Bool.{cases_Bool, cases_lt, ltb-true, ltb-false, lt-ltb}
+use Rattle.std.proofs.Common.{◌≡◌, ℕ, zero, suc, ◌+◌, ◌-◌, ◌<◌, ◌≤◌, Bool, true, false, cond, not, ltb, List, [], ◌∷◌, ◌++◌, length, get_or, take, drop, ℤ, None, Ok, Option, sym, ap, ◌∙◌, subst, ⊎_elim, arith}
+use Rattle.std.proofs.lemmas.Bool.{cases_lt}
 use Rattle.std.proofs.lemmas.Bool.Decides.{nat_tests}
-use Rattle.std.proofs.lemmas.List.{drop_at, get_or-take, get_or_past, get_or_default, take-take, length-append, length-drop, length-take-le}
+use Rattle.std.proofs.lemmas.List.{drop_at, get_or-take, get_or_past, get_or_default, take-take, length-append, length-take-le}
 use Rattle.frame.specs.declared.bound.WindowFrameBound.{WindowFrameBound}
 use Rattle.frame.specs.declared.bound.WindowFrameBound.TheVariants.{UnboundedPreceding, Preceding, CurrentRow, Following, UnboundedFollowing}
 use Rattle.frame.specs.declared.bound.WindowFrameUnits.{WindowFrameUnits}
@@ -17,19 +17,19 @@ use Rattle.meaning.specs.Rows.{row_start, row_end}
 use Rattle.meaning.specs.Turns.{last_held}
 use Rattle.meaning.specs.Clause.{same_line}
 use Rattle.search.specs.Views.{total_of}
-use Rattle.sitting.specs.Tables.{above, in_front}
+use Rattle.sitting.specs.Tables.{in_front}
 use Rattle.tracker.specs.declared.asking.Answered.{Answered}
 use Rattle.tracker.specs.declared.standing.Standing.{Standing}
 use Rattle.tracker.specs.Walks.{Rise, ends_from, all_ends}
-use Rattle.tracker.specs.Ends.{Held, entry_of, begins, stops, start_by, end_by, reach_by, needed}
+use Rattle.tracker.specs.Ends.{Held, entry_of, stops, start_by, end_by, reach_by, needed}
 use Rattle.tracker.specs.Edges.{start_from, end_from}
 use Rattle.tracker.specs.Asking.{Answers, Plainly, Ready, Finds}
 use Rattle.tracker.specs.Sound.{Kept, Shown, Rowed, Room, Past, Within, Rising, Passed, Behind}
 use Rattle.tracker.specs.States.{state}
-use Rattle.tracker.proofs.Rising.{ends_rise, rise_above, rise_get, rise_take, none_below, counted_in}
+use Rattle.tracker.proofs.Rising.{ends_rise, rise_above, rise_take, none_below, counted_in}
 use Rattle.tracker.proofs.Telling.{none_held, reach_far, far_past}
-use Rattle.tracker.proofs.Holding.{is_last, above_first}
-use Rattle.tracker.proofs.Finding.{place_low, below_all}
+use Rattle.tracker.proofs.Holding.{is_last}
+use Rattle.tracker.proofs.Finding.{place_low}
 use Rattle.tracker.proofs.Ordering.{all_shown}
 use Rattle.tracker.proofs.Answering.{front_get, has, there, written_small}
 

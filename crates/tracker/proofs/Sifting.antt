@@ -1,9 +1,9 @@
 -- Entries kept in front, one after another.
-use Rattle.std.proofs.Common.{◌≡◌, ℕ, ◌+◌, ◌-◌, ◌<◌, ◌≤◌, min, Bool, true, false, cond, ltb, List, [], ◌∷◌, ◌++◌, length, get_or, take, drop, set, filter, sym, refl, ap, ◌∙◌, ⊎_elim, arith}
+use Rattle.std.proofs.Common.{◌≡◌, ℕ, ◌+◌, ◌-◌, ◌<◌, ◌≤◌, min, Bool, true, false, cond, ltb, List, [], ◌∷◌, ◌++◌, length, get_or, take, drop, set, sym, ap, ◌∙◌, ⊎_elim, arith}
 use Rattle.std.proofs.lemmas.Bool.{cases_lt}
 use Rattle.std.proofs.lemmas.List.Elements.{filter_more}
 use Rattle.std.proofs.lemmas.List.{drop_more, take_all, append_assoc, append-nil, set_at, get_or-drop, get_or-append_right, length_push}
-use Rattle.sitting.specs.Tables.{above, in_front}
+use Rattle.sitting.specs.Tables.{above}
 
 -- the first i entries are sifted: what passes stands in the first k places, and the rest is as it was
 pub record Sifted (n : ℕ) (old now : List ℕ) (i k : ℕ) : Type 0 where

@@ -1,7 +1,7 @@
 -- The steps of a walk over the ends of turns.
-use Rattle.std.proofs.Common.{◌≡◌, ℕ, ◌+◌, ◌-◌, ◌<◌, ◌≤◌, Bool, true, false, cond, List, [], ◌∷◌, ◌++◌, map, length, take, drop, set, ℤ, None, Option, sym, refl, ap, ◌∙◌, subst, ⊎_elim, arith}
+use Rattle.std.proofs.Common.{◌≡◌, ℕ, ◌+◌, ◌-◌, ◌<◌, ◌≤◌, true, false, List, [], ◌∷◌, ◌++◌, map, length, take, drop, set, ℤ, None, Option, sym, refl, ap, ◌∙◌, ⊎_elim, arith}
 use Rattle.std.proofs.lemmas.Bool.{cases_lt}
-use Rattle.std.proofs.lemmas.List.{append_assoc, drop_all, drop-drop, drop-set-lt, length-append, length-set, length-take-le, take-append-drop, take_at, take_more_set}
+use Rattle.std.proofs.lemmas.List.{append_assoc, drop_all, drop-drop, drop-set-lt, length-append, length-take-le, take-append-drop, take_at, take_more_set}
 use Rattle.meaning.specs.Lines.{Line, ranked}
 use Rattle.meaning.specs.Turns.{turn_of, end_of, turn_ends}
 use Rattle.meaning.specs.Clause.{same_line}

@@ -1,5 +1,5 @@
 -- The contract of a window, for a tracker of which all holds that always does.
-use Rattle.std.proofs.Common.{◌≡◌, ℕ, ◌+◌, List, ℤ, None, Ok, Err, Option, sym, refl, ap, ◌∙◌, subst, arith}
+use Rattle.std.proofs.Common.{◌≡◌, ℕ, List, ℤ, None, Ok, Err, Option, sym, refl, ◌∙◌, subst, arith}
 use Rattle.frame.specs.declared.refusal.Reason.TheVariants.{TurnTableShort}
 use Rattle.frame.specs.Frames.{framed}
 use Rattle.meaning.specs.Lines.{ranked}

@@ -1,5 +1,5 @@
 -- Filing and the meeting of its slip as one call: where either is refused, nothing changes.
-use Rattle.std.specs.Prelude.{ℕ, ◌+◌, ◌-◌, List, length, Ok, Err, Option, Result}
+use Rattle.std.specs.Prelude.{ℕ, List, Ok, Err, Option, Result}
 use Rattle.std.specs.Borrow.{Bor}
 use Rattle.frame.specs.declared.refusal.Refusal.{Refusal}
 use Rattle.sitting.specs.State.{State}

@@ -1,8 +1,7 @@
 -- What a view answers of a line number, inside the lines that it holds and outside.
-use Rattle.std.proofs.Common.{◌≡◌, ℕ, ◌+◌, ◌-◌, ◌<◌, ◌≤◌, Bool, cond, ◌⊎◌, List, length, get_or, take, None, Ok, Err, Option, Result, sym, refl, ap, ◌∙◌, inl, inr, arith}
+use Rattle.std.proofs.Common.{◌≡◌, ℕ, ◌+◌, ◌-◌, ◌<◌, ◌≤◌, Bool, cond, ◌⊎◌, List, length, get_or, take, None, Ok, Err, Option, sym, ap, ◌∙◌, inl, inr}
 use Rattle.std.proofs.lemmas.List.{get_or_past, get_or-take, get_or_default}
 use Rattle.std.proofs.lemmas.Bool.{le-ltb, lt-ltb, le-leb}
-use Rattle.frame.specs.declared.refusal.Refusal.{Refusal}
 use Rattle.transcript.specs.Lines.{at_line, too_many, viewed}
 
 -- unmarked before the first line and past the last

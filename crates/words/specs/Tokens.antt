@@ -1,5 +1,4 @@
 -- What the code's words stand for.
-use Rattle.std.specs.Prelude.{ℕ}
 use Rattle.words.specs.declared.word.Span.{Span}
 use Rattle.words.specs.declared.word.Word.{Word}
 use Rattle.words.specs.declared.word.Word.TheVariants.{Key, Number, Other, Missing}

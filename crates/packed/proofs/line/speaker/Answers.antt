@@ -1,4 +1,4 @@
-use Rattle.std.proofs.Common.{◌≡◌, ◌≤◌, true, length, ◌∙◌, rules}
+use Rattle.std.proofs.Common.{◌≡◌, ◌≤◌, true, length, rules}
 use Rattle.packed.proofs.Bytes.{taken, little_1}
 use Rattle.packed.proofs.line.speaker.Goals as goal
 

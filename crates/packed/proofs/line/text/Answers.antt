@@ -1,4 +1,4 @@
-use Rattle.std.proofs.Common.{◌≡◌, ◌≤◌, true, length, get_or, take, drop, ◌∙◌, rules}
+use Rattle.std.proofs.Common.{◌≡◌, ◌≤◌, true, length, get_or, drop, rules}
 use Rattle.packed.proofs.Bytes.{text_taken}
 use Rattle.packed.proofs.line.text.Goals as goal
 

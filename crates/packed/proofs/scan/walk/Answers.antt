@@ -1,8 +1,7 @@
-use Rattle.std.proofs.Common.{◌≡◌, ℕ, ◌+◌, ◌-◌, ◌<◌, ◌≤◌, true, false, not, ◌&&◌, eqb, length, get_or, drop, Ok, Err, sym, refl, ap, ◌∙◌, inl, inr, arith, rules, eq-eqb}
-use Rattle.packed.specs.declared.line.LineFault.TheVariants.{UnknownBits, CutShort}
+use Rattle.std.proofs.Common.{◌≡◌, ◌+◌, ◌-◌, ◌<◌, false, not, ◌&&◌, eqb, length, get_or, Err, sym, ap, ◌∙◌, inl, inr, arith, rules, eq-eqb}
 use Rattle.packed.proofs.Tails.{line_tail}
 use Rattle.frame.specs.declared.refusal.Reason.{Reason}
-use Rattle.packed.specs.Scans.{walk_of, refuse}
+use Rattle.packed.specs.Scans.{refuse}
 use Rattle.packed.proofs.Walks.{full, far, done, faulty, wrong, on}
 use Rattle.packed.proofs.scan.walk.Goals as goal
 use Rattle.packed.proofs.scan.walk.Goals.{else-strict-via-then-strict+else-table-count, else-strict-via-else-strict}

@@ -1,7 +1,7 @@
-use Rattle.std.proofs.Common.{◌≡◌, ℕ, ◌+◌, ◌-◌, ◌≤◌, length, None, refl, ap, ◌∙◌, arith}
+use Rattle.std.proofs.Common.{ℕ, ◌+◌, ◌≤◌, length, None, refl, ap, ◌∙◌, arith}
 use Rattle.meaning.specs.Clause.{same_line}
 use Rattle.meaning.specs.Lines.{ranked}
-use Rattle.meaning.specs.Turns.{turn_of, first_of}
+use Rattle.meaning.specs.Turns.{first_of}
 use Rattle.search.proofs.Explaining.{all_of, capped, capped_sum}
 use Rattle.search.proofs.explain.start_by_turns.Goals as goal
 

@@ -1,4 +1,4 @@
-use Rattle.std.proofs.Common.{◌≡◌, ℕ, ◌+◌, ◌-◌, ap, ◌∙◌}
+use Rattle.std.proofs.Common.{ℕ, ◌+◌, ◌-◌, ap, ◌∙◌}
 use Rattle.meaning.specs.Counts.{how_many_from}
 use Rattle.search.specs.Tests.{parts_at}
 use Rattle.search.proofs.Seeking.{turn_counted}

@@ -1,4 +1,4 @@
-use Rattle.std.proofs.Common.{◌≡◌, ℕ, ◌+◌, ◌-◌, ◌<◌, ◌≤◌, None, sym, ap, ◌∙◌, arith}
+use Rattle.std.proofs.Common.{ℕ, ◌+◌, ◌<◌, None, sym, ap, ◌∙◌, arith}
 use Rattle.meaning.specs.Clause.{same_line}
 use Rattle.meaning.specs.Lines.{ranked}
 use Rattle.meaning.specs.Turns.{turn_of}

@@ -1,5 +1,5 @@
 use Rattle.std.proofs.Common.{sym, ◌∙◌, arith}
-use Rattle.meaning.proofs.Walking.{walk_on, walk_off, walk_end}
+use Rattle.meaning.proofs.Walking.{walk_on, walk_off}
 use Rattle.search.proofs.walks.first_failing.Goals as goal
 
 pub loop-at-preserved : goal.loop-at-preserved

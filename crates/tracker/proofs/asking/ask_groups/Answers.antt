@@ -1,7 +1,5 @@
-use Rattle.std.proofs.Common.{◌≡◌, ℕ, ◌+◌, ◌-◌, ◌<◌, ◌≤◌, List, ◌++◌, length, get_or, take, sym, refl, ap, ◌∙◌, subst, arith}
+use Rattle.std.proofs.Common.{◌≡◌, length, get_or, take, ap, ◌∙◌, arith}
 use Rattle.meaning.specs.Turns.{last_held}
-use Rattle.search.specs.Views.{total_of}
-use Rattle.sitting.specs.Tables.{in_front}
 use Rattle.tracker.specs.Walks.{ends_from, all_ends}
 use Rattle.tracker.specs.Ends.{entry_of, start_by, end_by, needed}
 use Rattle.tracker.proofs.Finding.{place_low}

@@ -1,4 +1,4 @@
-use Rattle.std.proofs.Common.{◌≡◌, Some, None, Err, Option, sym, ap, ◌∙◌}
+use Rattle.std.proofs.Common.{Err, sym, ap, ◌∙◌}
 use Rattle.std.specs.Option.{option_map}
 use Rattle.frame.specs.declared.refusal.Reason.TheVariants.{OutOfOrder}
 use Rattle.sitting.specs.Rules.{refuse}

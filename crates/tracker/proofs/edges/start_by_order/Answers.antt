@@ -1,4 +1,4 @@
-use Rattle.std.proofs.Common.{◌≡◌, sym, ap, ◌∙◌}
+use Rattle.std.proofs.Common.{sym, ap, ◌∙◌}
 use Rattle.meaning.specs.Lines.{ranked}
 use Rattle.tracker.specs.Edges.{start_from}
 use Rattle.tracker.proofs.Ordering.{starts_from, all_shown}

@@ -1,7 +1,7 @@
-use Rattle.std.proofs.Common.{◌≡◌, ℕ, List, Some, None, Ok, Err, Option, sym, refl, ap, ◌∙◌, subst}
+use Rattle.std.proofs.Common.{◌≡◌, Some, Err, sym, refl, ap, ◌∙◌}
 use Rattle.std.proofs.lemmas.Result.{err_from_is_err_and}
 use Rattle.packed.specs.Views.{from_line}
-use Rattle.sitting.specs.Rules.{or_else, answered, settled, filed_to, file_fault}
+use Rattle.sitting.specs.Rules.{or_else, answered, settled, filed_to}
 use Rattle.sitting.proofs.Checks.{answered_ok, answered_err}
 use Rattle.tracker.specs.Meetings.{packed_fault}
 use Rattle.tracker.specs.Trackers.{state_of}

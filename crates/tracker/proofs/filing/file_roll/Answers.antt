@@ -1,7 +1,6 @@
-use Rattle.std.proofs.Common.{◌≡◌, ℕ, length, Some, None, Ok, Err, Option, sym, refl, ap, ◌∙◌, subst}
+use Rattle.std.proofs.Common.{◌≡◌, length, Some, None, Err, sym, refl, ap, ◌∙◌}
 use Rattle.std.proofs.lemmas.Result.{err_from_is_err_and}
-use Rattle.frame.specs.declared.refusal.Refusal.{Refusal}
-use Rattle.sitting.specs.Rules.{or_else, answered, settled, filed_to, file_fault}
+use Rattle.sitting.specs.Rules.{or_else, answered, settled, filed_to}
 use Rattle.sitting.proofs.Checks.{answered_ok, answered_err}
 use Rattle.tracker.specs.Rolls.{held_of, meet_fault, kept_from, kept_slots}
 use Rattle.tracker.specs.Trackers.{state_of}

@@ -1,4 +1,4 @@
-use Rattle.std.proofs.Common.{◌≡◌, ℕ, ◌-◌, ◌<◌, ◌≤◌, min, max, take, sym, ap, ◌∙◌, arith}
+use Rattle.std.proofs.Common.{◌≡◌, ℕ, ◌-◌, ◌<◌, min, max, take, ap, ◌∙◌, arith}
 use Rattle.meaning.specs.Turns.{last_held}
 use Rattle.search.specs.Views.{total_of}
 use Rattle.tracker.specs.Ends.{far}

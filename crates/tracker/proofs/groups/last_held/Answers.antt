@@ -1,5 +1,5 @@
-use Rattle.std.proofs.Common.{◌<◌, sym, refl, arith, rules}
-use Rattle.tracker.proofs.Holding.{none_in_use, is_last, above_first}
+use Rattle.std.proofs.Common.{◌<◌, sym, refl, arith}
+use Rattle.tracker.proofs.Holding.{is_last, above_first}
 use Rattle.tracker.proofs.groups.last_held.Goals as goal
 
 pub overflow_sub-result-3 : goal.overflow_sub-result-3

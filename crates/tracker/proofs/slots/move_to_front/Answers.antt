@@ -1,4 +1,4 @@
-use Rattle.std.proofs.Common.{◌≡◌, ◌+◌, ◌<◌, List, length, get_or, set, ap, ◌∙◌, arith}
+use Rattle.std.proofs.Common.{◌+◌, ◌<◌, List, length, get_or, set, ap, ◌∙◌, arith}
 use Rattle.tracker.proofs.Moving.{next_slot, moved_more}
 use Rattle.tracker.proofs.slots.move_to_front.Goals as goal
 

@@ -1,6 +1,6 @@
-use Rattle.std.proofs.Common.{◌≡◌, ℕ, ◌+◌, ◌<◌, List, ◌++◌, length, get_or, take, drop, set, sym, refl, ap, ◌∙◌, subst, arith, rules}
+use Rattle.std.proofs.Common.{◌≡◌, ℕ, ◌+◌, ◌<◌, List, ◌++◌, length, get_or, take, drop, sym, refl, ap, ◌∙◌, subst, arith, rules}
 use Rattle.std.proofs.lemmas.Bool.{lt-ltb, le-ltb}
-use Rattle.sitting.specs.Tables.{above, in_front}
+use Rattle.sitting.specs.Tables.{above}
 use Rattle.tracker.proofs.Sifting.{Sifted, sifted_read, sifted_out, sifted_in, take_min}
 use Rattle.tracker.proofs.table.keep_above.Goals.{then-end-n, else-end-n}
 use Rattle.tracker.proofs.table.keep_above.Goals as goal

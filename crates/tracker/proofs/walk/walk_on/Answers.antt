@@ -1,4 +1,4 @@
-use Rattle.std.proofs.Common.{◌≡◌, ℕ, ◌+◌, ◌-◌, ◌<◌, sym, refl, ap, ◌∙◌, arith, rules}
+use Rattle.std.proofs.Common.{◌<◌, sym, refl, ap, ◌∙◌, arith, rules}
 use Rattle.search.specs.Views.{total_of}
 use Rattle.tracker.specs.Walks.{ends_from, walked}
 use Rattle.tracker.proofs.Walking.{Step, step, no_more, walked_stop, walked_go}

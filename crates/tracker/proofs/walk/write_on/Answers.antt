@@ -1,9 +1,8 @@
-use Rattle.std.proofs.Common.{◌≡◌, ℕ, ◌+◌, ◌<◌, ◌≤◌, List, ◌∷◌, ◌++◌, length, take, drop, set, sym, refl, ap, ◌∙◌, subst, arith, rules}
+use Rattle.std.proofs.Common.{◌≡◌, ℕ, ◌<◌, List, ◌++◌, length, take, refl, ap, ◌∙◌, subst, arith}
 use Rattle.std.proofs.lemmas.List.{length-append, length-take-le}
-use Rattle.search.specs.Views.{total_of}
 use Rattle.sitting.specs.Tables.{in_front}
 use Rattle.tracker.specs.Walks.{ends_from}
-use Rattle.tracker.proofs.Walking.{Step, step, Writing, write_next, write_done, more_lines}
+use Rattle.tracker.proofs.Walking.{step, Writing, write_next, write_done, more_lines}
 use Rattle.tracker.proofs.walk.write_on.Goals as goal
 
 pub loop-at-init : goal.loop-at-init

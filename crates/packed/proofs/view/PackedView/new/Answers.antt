@@ -1,4 +1,4 @@
-use Rattle.std.proofs.Common.{◌≡◌, sym, refl, ◌∙◌, arith}
+use Rattle.std.proofs.Common.{sym, refl, ◌∙◌, arith}
 use Rattle.packed.proofs.Shows.{made_view}
 use Rattle.packed.proofs.view.PackedView.new.Goals as goal
 

@@ -1,4 +1,4 @@
-use Rattle.std.proofs.Common.{◌⊎◌, ◌∙◌, inl, inr, arith}
+use Rattle.std.proofs.Common.{◌∙◌, inl, inr, arith}
 use Rattle.packed.specs.Views.{held}
 use Rattle.transcript.proofs.Held.{outside}
 use Rattle.packed.proofs.Shows.{held_length, read_at}

@@ -1,4 +1,4 @@
-use Rattle.std.proofs.Common.{◌≡◌, ℕ, length, Some, Option, sym, ap, ◌∙◌}
+use Rattle.std.proofs.Common.{◌≡◌, ℕ, length, Some, sym, ap, ◌∙◌}
 use Rattle.sitting.specs.Rules.{settled}
 use Rattle.sitting.proofs.Checks.{answered_err}
 use Rattle.tracker.specs.Rolls.{held_of, meet_fault, given_back, kept_from, kept_slots}

@@ -1,7 +1,6 @@
 use Rattle.std.proofs.Common.{◌≡◌, length, take, Err, Result, sym, refl, ap, ◌∙◌, subst}
 use Rattle.std.proofs.lemmas.Result.{err_from_is_err_and}
 use Rattle.frame.specs.declared.refusal.Refusal.{Refusal}
-use Rattle.frame.specs.Frames.{framed}
 use Rattle.sitting.specs.Calls.{Filing}
 use Rattle.sitting.specs.Rules.{staying, answered, settled, filed_to}
 use Rattle.sitting.proofs.Checks.{answered_ok, answered_err, file_clear}

@@ -1,4 +1,4 @@
-use Rattle.std.proofs.Common.{◌-◌, ◌≤◌, ◌⊎◌, length, take, inl, inr, arith}
+use Rattle.std.proofs.Common.{◌-◌, inl, inr, arith}
 use Rattle.std.proofs.lemmas.List.{length-take}
 use Rattle.transcript.specs.Stamps.{lines_of}
 use Rattle.transcript.proofs.Held.{outside, held_in}
