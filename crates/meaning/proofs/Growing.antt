@@ -2,7 +2,7 @@
 use Rattle.std.proofs.Common.{◌≡◌, ℕ, suc, ◌+◌, ◌-◌, ◌<◌, ◌≤◌, Bool, true, false, ltb, List, [], ◌∷◌, ◌++◌, map, length, get_or, take, drop, filter, sym, refl, ap, ◌∙◌, subst, ⊎_elim, arith}
 use mathlib.Core.List.{map-append}
 use lib.ListN.{length-map}
-use Rattle.std.specs.List.{range_with_len, AllByRecursion as All}
+use Rattle.std.specs.List.{range_with_len, AllByRecursion}
 use Rattle.std.proofs.lemmas.Bool.{cases_lt, cases_Bool, ltb-true, ltb-false, lt-ltb, le-ltb}
 use Rattle.std.proofs.ByRecursion.{All-get_or, all_kept_by, All-weaker}
 use Rattle.std.proofs.lemmas.List.{get_or-take, get_or-map, get_or_default, get_or_append_left, drop_all, drop-drop, drop-take, length-drop, length-take, length-take-le, take_at, take_all, take-take, take-map}
@@ -22,7 +22,7 @@ moved_twice f q (e ∷ es) =
 
 module _ {L : Type 0} (none : L) (same : L → L → Bool) where
   -- every end lies past the first line
-  ends_above : (xs : List L) → All (λ e. 0 < e) (turn_ends none same xs)
+  ends_above : (xs : List L) → AllByRecursion (λ e. 0 < e) (turn_ends none same xs)
   ends_above xs =
       let n = length xs in
       all_kept_by (is_end none same xs) (λ e. 0 < e) (range_with_len 1 n)

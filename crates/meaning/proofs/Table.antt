@@ -1,6 +1,6 @@
 -- The table of turn ends.
 use Rattle.std.proofs.Common.{◌≡◌, ℕ, zero, suc, ◌+◌, ◌-◌, ◌<◌, ◌≤◌, Bool, true, false, cond, ◌||◌, ltb, List, [], ◌∷◌, ◌++◌, map, length, take, drop, filter, sym, refl, ap, ◌∙◌, ⊎_elim, arith}
-use Rattle.std.specs.List.{range_with_len, AllByRecursion as All}
+use Rattle.std.specs.List.{range_with_len, AllByRecursion}
 use Rattle.std.proofs.lemmas.Bool.{cases_Bool, ltb-true, lt-ltb, le-ltb, ne_eqb}
 use Rattle.std.proofs.lemmas.List.Elements.{filter-append}
 use Rattle.std.proofs.ByRecursion.{all_kept_by, All-take, All-map, All-weaker}
@@ -28,11 +28,11 @@ pub table_filed : (L : Type 0) → TableFiled L
 table_filed L none same F f n r h = kept_kept (λ e. ltb f e) (λ e. ltb n e) (λ e y. lt-ltb _ _ (omega (arith, ltb-true n e y))) (take (r + 1) (turn_ends none same F))
 
 -- a filter that all pass, and one that none does
-kept_all : {X : Type 0} (q : X → Bool) (xs : List X) → All (λ x. q x ≡ true) xs → filter q xs ≡ xs
+kept_all : {X : Type 0} (q : X → Bool) (xs : List X) → AllByRecursion (λ x. q x ≡ true) xs → filter q xs ≡ xs
 kept_all q [] h = refl
 kept_all q (x ∷ xs) (y, h) = simp y (ap (λ ys. x ∷ ys) (kept_all q xs h))
 
-kept_none : {X : Type 0} (q : X → Bool) (xs : List X) → All (λ x. q x ≡ false) xs → filter q xs ≡ []
+kept_none : {X : Type 0} (q : X → Bool) (xs : List X) → AllByRecursion (λ x. q x ≡ false) xs → filter q xs ≡ []
 kept_none q [] h = refl
 kept_none q (x ∷ xs) (n, h) = simp n (kept_none q xs h)
 
@@ -43,7 +43,7 @@ take_past (x ∷ xs) ys (suc n) h =
     let e : suc n - suc (length xs) ≡ n - length xs = omega arith in
     rw e (ap (λ zs. x ∷ zs) (take_past xs ys n (omega arith)))
 
-pub counted_all : (a n : ℕ) → All (λ e. (a ≤ e) × (e < a + n)) (range_with_len a n)
+pub counted_all : (a n : ℕ) → AllByRecursion (λ e. (a ≤ e) × (e < a + n)) (range_with_len a n)
 counted_all a zero = tt
 counted_all a (suc n) = ((omega arith, omega arith), All-weaker (λ e. (a + 1 ≤ e) × (e < a + 1 + n)) (λ e. (a ≤ e) × (e < a + suc n)) (λ e h. (omega arith, omega arith)) (range_with_len (a + 1) n) (counted_all (a + 1) n))
 
@@ -90,11 +90,11 @@ module _ {L : Type 0} (none : L) (same : L → L → Bool) (F : List L) (f : ℕ
   unfolding filed
   split_length = filed_length
 
-  filed_below : All (λ e. ltb f e ≡ false) filed
+  filed_below : AllByRecursion (λ e. ltb f e ≡ false) filed
   unfolding filed
   filed_below = All-weaker (λ e. (1 ≤ e) × (e < 1 + f)) (λ e. ltb f e ≡ false) (λ e h. le-ltb _ _ (omega arith)) _ (all_kept_by (is_end none same F) (λ e. (1 ≤ e) × (e < 1 + f)) (range_with_len 1 f) (counted_all 1 f))
 
-  left_above : All (λ e. ltb f e ≡ true) left
+  left_above : AllByRecursion (λ e. ltb f e ≡ true) left
   unfolding left
   left_above =
       let n = length (drop f F) in

@@ -1,6 +1,6 @@
 -- Sample windows, and the turn tables of a short sitting.
 use Rattle.std.specs.Prelude.{◌≡◌, ℕ, Bool, true, false, List, [], ◌∷◌, take, pos, negsuc, Some, None}
-use Rattle.std.specs.List.{AllByRecursion as All}
+use Rattle.std.specs.List.{AllByRecursion}
 use Rattle.frame.specs.declared.bound.WindowFrameBound.{WindowFrameBound}
 use Rattle.frame.specs.declared.bound.WindowFrameBound.TheVariants.{UnboundedPreceding, Preceding, CurrentRow, Following, UnboundedFollowing}
 use Rattle.frame.specs.declared.bound.WindowFrameUnits.{WindowFrameUnits}
@@ -88,7 +88,7 @@ abbrev pub ComesOut : Sample → Type 0
 ComesOut s = (starts s.options s.units s.start s.lines s.line, ends s.options s.units s.end s.lines s.line) ≡ s.window
 
 abbrev pub SamplesHold : Type 0
-SamplesHold = All ComesOut samples
+SamplesHold = AllByRecursion ComesOut samples
 
 -- the turn table of the sample turns under a frame that ends at CURRENT ROW: at line 4, after a filing up to 2, and at line 6
 abbrev pub TablesHold : Type 0

@@ -2,7 +2,7 @@
 use Rattle.std.proofs.Common.{◌≡◌, ℕ, zero, suc, ◌+◌, ◌-◌, ◌^◌, ◌<◌, ◌≤◌, Bool, true, false, cond, ltb, leb, List, [], ◌∷◌, ◌++◌, length, get_or, take, drop, is_ok, Ok, Err, Result, sym, refl, ap, ◌∙◌, subst, arith, length-append}
 use Rattle.std.proofs.lemmas.List.{take-append-le, take_all}
 use Rattle.std.proofs.lemmas.Bool.{ltb-true, leb-true, le-leb}
-use Rattle.std.specs.List.{AllByRecursion as All}
+use Rattle.std.specs.List.{AllByRecursion}
 use Rattle.frame.specs.declared.refusal.Refusal.{Refusal}
 use Rattle.frame.specs.declared.refusal.Reason.TheVariants as reasons
 use Rattle.transcript.specs.Lines.{too_many}
@@ -58,7 +58,7 @@ fill_lines {p = p} (e ∷ es) (line x bs rest {ps = ps} l d) h =
     ∙ ap (λ (zs : List ℕ). p ∷ zs) (fill_lines {p = p + length bs} es d (omega arith))
 
 -- lines for which the table has room are counted
-walk_lines : {p : ℕ} {bs : List ℕ} {xs : List Line} {ps : List ℕ} (es : List ℕ) (n : ℕ) → LinesAt p bs xs ps → length ps ≤ length es → All (λ q. q < 2 ^ 32) ps → walk_of false es n p bs ≡ Ok (n + length ps)
+walk_lines : {p : ℕ} {bs : List ℕ} {xs : List Line} {ps : List ℕ} (es : List ℕ) (n : ℕ) → LinesAt p bs xs ps → length ps ≤ length es → AllByRecursion (λ q. q < 2 ^ 32) ps → walk_of false es n p bs ≡ Ok (n + length ps)
 walk_lines [] n none h fit = ap Ok (omega arith)
 walk_lines (e ∷ es) n none h fit = ap Ok (omega arith)
 walk_lines [] n (line x bs rest l d) h fit = absurd (omega arith)
@@ -73,7 +73,7 @@ walk_lines {p = p} (e ∷ es) n (line x bs rest {ps = ps} l d) h fit =
 
 -- what a walk that came to its end has found
 Found : List ℕ → ℕ → List ℕ → ℕ → Type 0
-Found es at bs k = (xs : List Line) × (ps : List ℕ) × LinesAt at bs xs ps × (length ps ≡ k) × (length ps ≤ length es) × All (λ q. q < 2 ^ 32) ps
+Found es at bs k = (xs : List Line) × (ps : List ℕ) × LinesAt at bs xs ps × (length ps ≡ k) × (length ps ≤ length es) × AllByRecursion (λ q. q < 2 ^ 32) ps
 
 inverted : (b : Bool) (l : Result (Line × List ℕ) LineFault) (d : Refusal) (g : LineFault → Refusal) (w : Line × List ℕ → Result ℕ Refusal) (m : ℕ) → cond b (by_line l w (λ f. Err (g f))) (Err d) ≡ Ok m → (b ≡ true) × ((x : Line × List ℕ) × (Ok x ≡ l) × (w x ≡ Ok m))
 inverted true (Ok x) d g w m e = (refl, (x, refl, e))

@@ -1,6 +1,6 @@
 -- Which bytes are which lines, at which places: a relation, field by field.
 use Rattle.std.specs.Prelude.{◌≡◌, ℕ, ◌+◌, ◌*◌, ◌^◌, ◌<◌, ◌≤◌, cond, List, [], ◌∷◌, ◌++◌, length, drop, is_some, Some, None, Ok, Err, Option, Result}
-use Rattle.std.specs.List.{AllByRecursion as All}
+use Rattle.std.specs.List.{AllByRecursion}
 use Rattle.frame.specs.declared.refusal.Refusal.{Refusal}
 use Rattle.packed.specs.Fields.{Line}
 
@@ -47,7 +47,7 @@ pub data LinesAt : ℕ → List ℕ → List Line → List ℕ → Type 0 where
 -- places that a table can hold: an entry for each, each of 32 bits, and no more than there are line numbers
 pub record Room (table ps : List ℕ) : Type 0 where
   pub entries : length ps ≤ length table
-  pub fit : All (λ p. p < 2 ^ 32) ps
+  pub fit : AllByRecursion (λ p. p < 2 ^ 32) ps
   pub few : length ps ≤ 4294967295
 
 -- the whole of the bytes is lines, and these are written to the front of the table; no other lines are the bytes

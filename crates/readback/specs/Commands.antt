@@ -1,11 +1,9 @@
 -- What a line of the script asks for.
-use Rattle.std.specs.Prelude.{ℕ, ◌+◌, Bool, true, false, cond, not, List, [], ◌∷◌, length, take, drop, Some, None, codes, Option, ◌==◌}
+use Rattle.std.specs.Prelude.{ℕ, ◌+◌, Bool, true, false, cond, not, List, [], ◌∷◌, length, take, drop, codes, ◌==◌}
 use Rattle.std.specs.List.{prefix_len}
 use Rattle.std.specs.Str.{bytes_eq}
 use Rattle.readback.specs.declared.command.Command.{Command}
-use Rattle.readback.specs.declared.command.Command.TheVariants.{Nothing, Clause, Reverse, Scan, View, Explain, Open, Asked, Wrong}
-use Rattle.readback.specs.declared.command.Call.{Call}
-use Rattle.readback.specs.declared.command.Call.TheVariants.{Line, Feed, Window, Ask, File, Table, Roll, Places}
+use Rattle.readback.specs.declared.command.Command.TheVariants.{Nothing, Clause, Reverse, Scan, View, Explain, Wrong}
 use Rattle.readback.specs.declared.command.Mistake.{Mistake}
 use Rattle.readback.specs.declared.command.Mistake.TheVariants.{UnknownCommand, TooManyWords}
 
@@ -34,8 +32,6 @@ pub data Meant : Type 0 where
   scan : List ℕ → Meant
   view : List ℕ → Meant
   explain : List ℕ → Meant
-  begin : List ℕ → Meant
-  asked : Call → List ℕ → Meant
   wrong : Mistake → Meant
 
 abbrev pub meant : Command → Meant
@@ -45,27 +41,7 @@ meant Reverse = reverse
 meant (Scan args) = scan args.now
 meant (View args) = view args.now
 meant (Explain args) = explain args.now
-meant (Open args) = begin args.now
-meant (Asked c args) = asked c args.now
 meant (Wrong m) = wrong m
-
--- the commands of a sitting
-abbrev pub call_of : List ℕ → Option Call
-call_of word =
-    cond (bytes_eq word (codes "line")) (Some Line) (
-    cond (bytes_eq word (codes "feed")) (Some Feed) (
-    cond (bytes_eq word (codes "window")) (Some Window) (
-    cond (bytes_eq word (codes "ask")) (Some Ask) (
-    cond (bytes_eq word (codes "file")) (Some File) (
-    cond (bytes_eq word (codes "table")) (Some Table) (
-    cond (bytes_eq word (codes "roll")) (Some Roll) (
-    cond (bytes_eq word (codes "places")) (Some Places) (
-    None))))))))
-
--- a sitting's command, or none that is known
-abbrev pub asked_or : Option Call → List ℕ → Meant
-asked_or (Some c) args = asked c args
-asked_or None args = wrong UnknownCommand
 
 -- whether a line is empty or a comment
 abbrev pub passed_over : List ℕ → Bool
@@ -80,5 +56,4 @@ command line =
     cond (bytes_eq (head line) (codes "scan")) (scan (rest line)) (
     cond (bytes_eq (head line) (codes "view")) (view (rest line)) (
     cond (bytes_eq (head line) (codes "explain")) (explain (rest line)) (
-    cond (bytes_eq (head line) (codes "open")) (begin (rest line)) (
-    asked_or (call_of (head line)) (rest line))))))))
+    wrong UnknownCommand))))))

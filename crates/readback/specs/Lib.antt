@@ -1,4 +1,5 @@
 pub mod Args
+pub mod Asks
 pub mod Commands
 pub mod Lines
 pub mod Scripts

@@ -1,7 +1,7 @@
 -- The lines that answer a script.
 use Rattle.std.specs.Prelude.{ℕ, Bool, cond, ◌&&◌, List, ◌++◌, map, Ok, Err, codes, decimal, Result, nat_le}
 use Rattle.readback.specs.declared.command.Mistake.{Mistake}
-use Rattle.readback.specs.declared.command.Mistake.TheVariants.{UnknownCommand, TooManyWords, MissingWord, BadNumber, BadBytes, BadKind, BadOption, BadKey, TooLarge, NoSuchLine, OutOfOrder, NoFrame, NotOpen, NotHere, BadHolder, NoMemory}
+use Rattle.readback.specs.declared.command.Mistake.TheVariants.{UnknownCommand, TooManyWords, MissingWord, BadNumber, BadBytes, BadKind, BadOption, BadKey, TooLarge, NoSuchLine, OutOfOrder, NoFrame, NotHere, BadHolder, NoMemory}
 use Rattle.frame.specs.Bounds.{causal}
 use Rattle.frame.specs.Frames.{Frame, free}
 use Rattle.frame.specs.Refusals.{Refused}
@@ -42,7 +42,6 @@ mistake_text NoSuchLine = codes "no such line"
 mistake_text OutOfOrder = codes "the lines are out of order"
 mistake_text TooLarge = codes "a table has at most 16777216 entries"
 mistake_text NoFrame = codes "no frame: read a clause first"
-mistake_text NotOpen = codes "nothing is open"
 mistake_text NotHere = codes "not with these lines"
 mistake_text BadHolder = codes "lines are held by a roll or packed"
 mistake_text NoMemory = codes "out of memory"

@@ -4,9 +4,9 @@ use Rattle.std.specs.Option.{option_map}
 use Rattle.frame.specs.Clause as frames
 use Rattle.frame.specs.Frames.{Frame, framed, reversed}
 use Rattle.frame.specs.Refusals.{Refused}
-use Rattle.readback.specs.declared.command.Mistake.TheVariants.{NoFrame, NotOpen}
+use Rattle.readback.specs.declared.command.Mistake.TheVariants.{NoFrame}
 use Rattle.readback.specs.declared.session.Session.{Session}
-use Rattle.readback.specs.Commands.{Meant, nothing, clause, reverse, scan, view, explain, begin, asked, wrong}
+use Rattle.readback.specs.Commands.{Meant, nothing, clause, reverse, scan, view, explain, wrong}
 use Rattle.readback.specs.Lines.{frame_line, clause_line, error_line}
 
 -- the current frame, if there is one
@@ -25,8 +25,6 @@ after s reverse = option_map reversed s
 after s (scan args) = s
 after s (view args) = s
 after s (explain args) = s
-after s (begin args) = s
-after s (asked c args) = s
 after s (wrong m) = s
 
 abbrev pub reverse_line : Option Frame → List ℕ
@@ -41,6 +39,4 @@ Replies s reverse a = a ≡ Some (reverse_line s)
 Replies s (scan args) a = is_some a ≡ true
 Replies s (view args) a = is_some a ≡ true
 Replies s (explain args) a = is_some a ≡ true
-Replies s (begin args) a = a ≡ Some (error_line NotOpen)
-Replies s (asked c args) a = a ≡ Some (error_line NotOpen)
 Replies s (wrong m) a = a ≡ Some (error_line m)

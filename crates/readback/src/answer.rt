@@ -91,7 +91,6 @@ impl fmt::Display for Mistake {
             Mistake::OutOfOrder => f.write_str("the lines are out of order"),
             Mistake::TooLarge => f.write_str("a table has at most 16777216 entries"),
             Mistake::NoFrame => f.write_str("no frame: read a clause first"),
-            Mistake::NotOpen => f.write_str("nothing is open"),
             Mistake::NotHere => f.write_str("not with these lines"),
             Mistake::BadHolder => f.write_str("lines are held by a roll or packed"),
             Mistake::NoMemory => f.write_str("out of memory"),

@@ -1,6 +1,6 @@
 ghost use Rattle.std.specs.Prelude.{◌≡◌};
 ghost use Rattle.std.specs.Str.{bytes_eq};
-ghost use Rattle.readback.specs.Commands.{command, meant, before_mark, behind_mark, head, rest, passed_over, call_of};
+ghost use Rattle.readback.specs.Commands.{command, meant, before_mark, behind_mark, head, rest, passed_over};
 
 use frame::refusal::Refusal;
 use std::alloc::{AllocError, AllocFailed};
@@ -15,23 +15,7 @@ pub enum Command<'a> {
     Scan(&'a [u8]),
     View(&'a [u8]),
     Explain(&'a [u8]),
-    Open(&'a [u8]),
-    // what is asked of the sitting that is open
-    Asked(Call, &'a [u8]),
     Wrong(Mistake),
-}
-
-// What a sitting is asked for.
-#[derive(Clone, Copy)]
-pub enum Call {
-    Line,
-    Feed,
-    Window,
-    Ask,
-    File,
-    Table,
-    Roll,
-    Places,
 }
 
 // A mistake in the script itself.
@@ -49,7 +33,6 @@ pub enum Mistake {
     OutOfOrder,
     TooLarge,
     NoFrame,
-    NotOpen,
     NotHere,
     BadHolder,
     NoMemory,
@@ -124,31 +107,6 @@ fn is_passed_over(line: &[u8]) -> bool
     }
 }
 
-// What a sitting is asked for by a word, if it is one of its commands.
-fn read_call(word: &[u8]) -> Option<Call>
-    ensures { result ≡ call_of word.now }
-{
-    if is(word, "line") {
-        Some(Call::Line)
-    } else if is(word, "feed") {
-        Some(Call::Feed)
-    } else if is(word, "window") {
-        Some(Call::Window)
-    } else if is(word, "ask") {
-        Some(Call::Ask)
-    } else if is(word, "file") {
-        Some(Call::File)
-    } else if is(word, "table") {
-        Some(Call::Table)
-    } else if is(word, "roll") {
-        Some(Call::Roll)
-    } else if is(word, "places") {
-        Some(Call::Places)
-    } else {
-        None
-    }
-}
-
 // Reads one line of the script.
 pub fn read_command(line: &[u8]) -> Command<'_>
     ensures { meant result ≡ command line.now }
@@ -171,12 +129,7 @@ pub fn read_command(line: &[u8]) -> Command<'_>
         Command::View(behind)
     } else if is(word, "explain") {
         Command::Explain(behind)
-    } else if is(word, "open") {
-        Command::Open(behind)
     } else {
-        match read_call(word) {
-            Some(call) => Command::Asked(call, behind),
-            None => Command::Wrong(Mistake::UnknownCommand),
-        }
+        Command::Wrong(Mistake::UnknownCommand)
     }
 }

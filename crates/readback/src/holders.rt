@@ -1,6 +1,7 @@
 use crate::answer::{push_keys, push_numbers};
 use crate::args::Args;
-use crate::command::{Call, Mistake, Trouble};
+use crate::asks::Call;
+use crate::command::{Mistake, Trouble};
 use crate::keys::{ScriptKey, read_key};
 use frame::refusal::Refusal;
 use packed::reads::PackedKey;

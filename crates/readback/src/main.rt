@@ -3,6 +3,7 @@
 
 mod answer;
 mod args;
+mod asks;
 mod command;
 mod explains;
 mod holders;

@@ -1,4 +1,4 @@
-use crate::command::{Call, Command, read_command};
+use crate::asks::{Ask, Call, read_ask};
 use crate::holders::Holder;
 use crate::keys::ScriptKey;
 use crate::opens::{Request, Start, kind_of, read_open};
@@ -47,7 +47,7 @@ fn before_opening(
         let Some(line) = next_line(heap, input)? else {
             return Ok(None);
         };
-        if let Command::Open(args) = read_command(line.as_slice()) {
+        if let Some(Ask::Open(args)) = read_ask(line.as_slice()) {
             if let Some(request) = opened(rt, session, args)? {
                 return Ok(Some(request));
             }
@@ -76,21 +76,21 @@ fn sit<K: ScriptKey, H: Holder<Key = K> + Drop>(
         let Some(line) = next_line(heap, input)? else {
             return Ok(None);
         };
-        match read_command(line.as_slice()) {
-            Command::Open(args) => {
+        match read_ask(line.as_slice()) {
+            Some(Ask::Open(args)) => {
                 if let Some(request) = opened(rt, session, args)? {
                     return Ok(Some(request));
                 }
             }
-            Command::Asked(Call::Table, args) => {
+            Some(Ask::Of(Call::Table, args)) => {
                 let answer = told(heap, table_line(heap, &tracker, args))?;
                 println!(rt; "{answer}")?;
             }
-            Command::Asked(call, args) => {
+            Some(Ask::Of(call, args)) => {
                 let answer = told(heap, call_line(heap, &mut tracker, &mut holder, call, args))?;
                 println!(rt; "{answer}")?;
             }
-            _ => {
+            None => {
                 if let Some(answer) = session.answer(heap, line.as_slice())? {
                     println!(rt; "{answer}")?;
                 }

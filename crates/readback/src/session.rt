@@ -56,7 +56,6 @@ impl Session {
             Command::Scan(args) => told(heap, scan_line(heap, args))?,
             Command::View(args) => told(heap, view_line(heap, args))?,
             Command::Explain(args) => told(heap, explain_line(heap, self.frame, args))?,
-            Command::Open(_) | Command::Asked(_, _) => error_line(heap, Mistake::NotOpen)?,
             Command::Wrong(mistake) => error_line(heap, mistake)?,
         };
         Ok(Some(answer))

@@ -1,5 +1,6 @@
 use crate::args::Args;
-use crate::command::{Call, Mistake, Trouble};
+use crate::asks::Call;
+use crate::command::{Mistake, Trouble};
 use crate::explains::read_keys;
 use crate::holders::Holder;
 use crate::keys::ScriptKey;

@@ -1,6 +1,6 @@
 -- What a question under GROUPS needs, writes and reads.
 use Rattle.std.proofs.Common.{◌≡◌, ℕ, ◌+◌, ◌-◌, ◌<◌, ◌≤◌, List, ◌++◌, length, get_or, take, drop, ℤ, None, Option, ap, ◌∙◌, ⊎_elim, arith}
-use Rattle.std.specs.List.{range_with_len, AllByRecursion as All}
+use Rattle.std.specs.List.{range_with_len, AllByRecursion}
 use Rattle.std.proofs.lemmas.Bool.{cases_lt}
 use Rattle.std.proofs.ByRecursion.{All-get_or, all_kept_by, All-map, All-weaker}
 use Rattle.std.proofs.lemmas.List.{get_or_append_left, get_or-append_right, get_or-take, length-drop, length-take-le, take_at}
@@ -40,7 +40,7 @@ module _ {K : Type 0} (rank : K → ℤ) (first : ℕ) (xs : List (Option K)) (t
   pub has : entry_of (all_ends rank first xs table live) line < length (all_ends rank first xs table live)
   has = below_all rank first xs table live room held line low high
 
-  past_small : All (λ e. e ≤ total_of first xs) (ends_from rank first xs (last_held first (take live table)))
+  past_small : AllByRecursion (λ e. e ≤ total_of first xs) (ends_from rank first xs (last_held first (take live table)))
   past_small =
       let p = last_held first (take live table) in
       let X = ranked rank xs in

@@ -1,6 +1,6 @@
 -- What holds of a tracker goes on to hold after a filing.
 use Rattle.std.proofs.Common.{◌≡◌, ℕ, ◌<◌, ◌≤◌, true, false, cond, ltb, List, [], ◌∷◌, length, get_or, take, drop, sym, refl, ap, ◌∙◌, subst, ⊎_elim, arith}
-use Rattle.std.specs.List.{AllByRecursion as All}
+use Rattle.std.specs.List.{AllByRecursion}
 use Rattle.std.proofs.lemmas.Bool.{cases_Bool, lt-ltb, ltb-true}
 use Rattle.std.proofs.ByRecursion.{All-get_or, All-from_get_or, all_kept_by}
 use Rattle.std.proofs.lemmas.List.{get_or_append_left, get_or-take, length-append, length-take-le}
@@ -47,7 +47,7 @@ module _ (s : Standing) (table : List ℕ) (k : Sound s table) where
       (λ i l. omega (arith, get_or-take s.live table i 0 (omega arith), k.past i (omega arith)))
       (λ i j l m. omega (arith, get_or-take s.live table i 0 (omega arith), get_or-take s.live table j 0 (omega arith), k.rising i j l (omega arith)))
 
-  in_use_within : All (λ e. e ≤ s.last.total) (take s.live table)
+  in_use_within : AllByRecursion (λ e. e ≤ s.last.total) (take s.live table)
   in_use_within =
       let n : length (take s.live table) ≡ s.live = length-take-le s.live table k.room in
       All-from_get_or (λ e. e ≤ s.last.total) (take s.live table) 0 (λ i l. omega (arith, get_or-take s.live table i 0 (omega arith), k.within i (omega arith)))
@@ -58,7 +58,7 @@ module _ (s : Standing) (table : List ℕ) (k : Sound s table) where
   stay_rise Range n = tt
   stay_rise Groups n = above_rises n s.filed (take s.live table) in_use_rise
 
-  stay_within : (u : WindowFrameUnits) (n : ℕ) → All (λ e. e ≤ s.last.total) (staying u n (take s.live table))
+  stay_within : (u : WindowFrameUnits) (n : ℕ) → AllByRecursion (λ e. e ≤ s.last.total) (staying u n (take s.live table))
   stay_within Rows n = tt
   stay_within Range n = tt
   stay_within Groups n = all_kept_by (λ e. ltb n e) (λ e. e ≤ s.last.total) (take s.live table) in_use_within

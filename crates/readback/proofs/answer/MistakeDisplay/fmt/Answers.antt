@@ -39,9 +39,6 @@ returns-in-NoFrame-clause-writes g c = simp c.in-NoFrame.is c.write_str-in-NoFra
 pub returns-in-NoMemory-clause-writes : goal.returns-in-NoMemory-clause-writes
 returns-in-NoMemory-clause-writes g c = simp c.in-NoMemory.is c.write_str-in-NoMemory.ensures.writes
 
-pub returns-in-NotOpen-clause-writes : goal.returns-in-NotOpen-clause-writes
-returns-in-NotOpen-clause-writes g c = simp c.in-NotOpen.is c.write_str-in-NotOpen.ensures.writes
-
 pub returns-in-NotHere-clause-writes : goal.returns-in-NotHere-clause-writes
 returns-in-NotHere-clause-writes g c = simp c.in-NotHere.is c.write_str-in-NotHere.ensures.writes
 

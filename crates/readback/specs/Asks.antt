@@ -1,0 +1,36 @@
+-- What a line of the script asks of a sitting.
+use Rattle.std.specs.Prelude.{ℕ, cond, List, Some, None, Option, codes}
+use Rattle.std.specs.Option.{option_map}
+use Rattle.std.specs.Str.{bytes_eq}
+use Rattle.readback.specs.declared.asks.Ask.{Ask}
+use Rattle.readback.specs.declared.asks.Ask.TheVariants.{Open, Of}
+use Rattle.readback.specs.declared.asks.Call.{Call}
+use Rattle.readback.specs.declared.asks.Call.TheVariants.{Line, Feed, Window, Ask as AskCall, File, Table, Roll, Places}
+use Rattle.readback.specs.Commands.{head, rest}
+
+pub data Asked : Type 0 where
+  begin : List ℕ → Asked
+  asked : Call → List ℕ → Asked
+
+abbrev pub meant_ask : Ask → Asked
+meant_ask (Open args) = begin args.now
+meant_ask (Of c args) = asked c args.now
+
+-- the commands of a sitting
+abbrev pub call_of : List ℕ → Option Call
+call_of word =
+    cond (bytes_eq word (codes "line")) (Some Line) (
+    cond (bytes_eq word (codes "feed")) (Some Feed) (
+    cond (bytes_eq word (codes "window")) (Some Window) (
+    cond (bytes_eq word (codes "ask")) (Some AskCall) (
+    cond (bytes_eq word (codes "file")) (Some File) (
+    cond (bytes_eq word (codes "table")) (Some Table) (
+    cond (bytes_eq word (codes "roll")) (Some Roll) (
+    cond (bytes_eq word (codes "places")) (Some Places) (
+    None))))))))
+
+-- the command and the bytes behind it
+abbrev pub ask_of : List ℕ → Option Asked
+ask_of line =
+    cond (bytes_eq (head line) (codes "open")) (Some (begin (rest line))) (
+    option_map (λ c. asked c (rest line)) (call_of (head line)))
