@@ -4,17 +4,17 @@
 mod answer;
 mod args;
 mod asks;
+mod calls;
 mod command;
 mod explains;
 mod holders;
 mod keys;
 mod opens;
 mod packs;
-mod run;
+mod script;
 mod session;
-mod sitting;
 
-use run::run;
+use script::run;
 
 fn main(rt: HostRuntime) -> anyhow::Result<()> {
     run(&rt)

@@ -1,9 +1,9 @@
 use crate::asks::{Ask, Call, read_ask};
+use crate::calls::{call_line, table_line};
 use crate::holders::Holder;
 use crate::keys::ScriptKey;
 use crate::opens::{Request, Start, kind_of, read_open};
 use crate::session::{Session, told};
-use crate::sitting::{call_line, table_line};
 use std::alloc::Global;
 use std::io::{BufRead, BufReader, Stdin};
 
