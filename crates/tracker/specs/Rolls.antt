@@ -14,11 +14,11 @@ abbrev pub refuse : Reason → ℕ → Refusal
 refuse r p = record { reason = r; place = p; layer = layers.Roll }
 
 -- a roll: the number of its first line, and how many lines there are
-pub record Held : Type 0 where
+pub record RollNumbers : Type 0 where
   pub first : ℕ
   pub count : ℕ
 
-abbrev pub held_of : Roll → Held
+abbrev pub held_of : Roll → RollNumbers
 held_of r = record { first = r.first; count = r.count }
 
 -- the array cannot hold so many lines
@@ -26,17 +26,17 @@ abbrev pub room_fault : ℕ → ℕ → Option Refusal
 room_fault count room = cond (nat_le count room) None (Some (refuse ArrayShort room))
 
 -- one line more: the count of lines, then the array
-abbrev pub add_fault : Held → ℕ → Option Refusal
+abbrev pub add_fault : RollNumbers → ℕ → Option Refusal
 add_fault h room = cond (nat_le (h.first + h.count + 1) 4294967295) (room_fault (h.count + 1) room) (Some (refuse TooManyLines 0))
 
 -- it has the number behind the last line's
-abbrev pub adding : Held → ℕ → Result ℕ Refusal
+abbrev pub adding : RollNumbers → ℕ → Result ℕ Refusal
 adding h room = answered (add_fault h room) (h.first + h.count)
 
-abbrev pub added : Held → ℕ → Held
+abbrev pub added : RollNumbers → ℕ → RollNumbers
 added h room = settled (add_fault h room) h (record { first = h.first; count = h.count + 1 })
 
-abbrev pub add_slots : {X : Type 0} → Held → X → List X → List X
+abbrev pub add_slots : {X : Type 0} → RollNumbers → X → List X → List X
 add_slots h x xs = settled (add_fault h (length xs)) xs (slice_set xs h.count x)
 
 -- a slip is for lines from first to before total: it begins at first, and ends no earlier and not past the total
@@ -48,7 +48,7 @@ abbrev pub slip_fault : Layer → ℕ → ℕ → Slip → Option Refusal
 slip_fault l first total s = cond (fits_slip first total s) None (Some (record { reason = OtherSlip; place = first; layer = l }))
 
 -- a meeting: the array, then the slip
-abbrev pub meet_fault : Held → ℕ → Slip → Option Refusal
+abbrev pub meet_fault : RollNumbers → ℕ → Slip → Option Refusal
 meet_fault h room s = cond (nat_le h.count room) (slip_fault layers.Roll h.first (h.first + h.count) s) (Some (refuse ArrayShort room))
 
 -- a refusal gives the slip back
@@ -57,19 +57,19 @@ given_back s (Some e) x = Err (e, s)
 given_back s None x = Ok x
 
 -- the lines before line n go
-abbrev pub kept_from : ℕ → Held → Held
+abbrev pub kept_from : ℕ → RollNumbers → RollNumbers
 kept_from n h = record { first = n; count = h.count - (n - h.first) }
 
 -- the kept lines move to the front
-abbrev pub kept_slots : {X : Type 0} → ℕ → Held → List X → List X
+abbrev pub kept_slots : {X : Type 0} → ℕ → RollNumbers → List X → List X
 kept_slots n h xs = moved (n - h.first) (h.count - (n - h.first)) xs
 
-abbrev pub met : Held → ℕ → Slip → Held
+abbrev pub met : RollNumbers → ℕ → Slip → RollNumbers
 met h room s = settled (meet_fault h room s) h (kept_from s.to h)
 
-abbrev pub met_slots : {X : Type 0} → Held → Slip → List X → List X
+abbrev pub met_slots : {X : Type 0} → RollNumbers → Slip → List X → List X
 met_slots h s xs = settled (meet_fault h (length xs) s) xs (kept_slots s.to h xs)
 
 -- a view of the lines in front
-abbrev pub rolled : {X : Type 0} → Held → List X → Result (ℕ × List X) Refusal
+abbrev pub rolled : {X : Type 0} → RollNumbers → List X → Result (ℕ × List X) Refusal
 rolled h xs = answered (room_fault h.count (length xs)) (h.first, take h.count xs)

@@ -5,7 +5,7 @@ use Rattle.frame.specs.declared.refusal.Refusal.{Refusal}
 use Rattle.sitting.specs.State.{State}
 use Rattle.sitting.specs.Rules.{or_else, file_fault}
 use Rattle.tracker.specs.declared.slip.Slip.{Slip}
-use Rattle.tracker.specs.Rolls.{Held, meet_fault}
+use Rattle.tracker.specs.Rolls.{RollNumbers, meet_fault}
 
 -- the slip of a filing up to n
 abbrev pub slip_of : State → ℕ → Slip
@@ -15,7 +15,7 @@ slip_of s n = record { from = s.filed; to = n }
 abbrev pub either_fault : State → ℕ → Option Refusal → Option Refusal
 either_fault s n meeting = or_else (file_fault s.last s.filed n) meeting
 
-abbrev pub roll_fault : State → ℕ → Held → ℕ → Option Refusal
+abbrev pub roll_fault : State → ℕ → RollNumbers → ℕ → Option Refusal
 roll_fault s n h room = either_fault s n (meet_fault h room (slip_of s n))
 
 -- what is handed on, with the filed count before
