@@ -4,20 +4,10 @@ use crate::holders::Holder;
 use crate::keys::ScriptKey;
 use crate::opens::{Request, Start, kind_of, read_open};
 use crate::session::{Session, told};
-use std::alloc::Global;
-use std::io::{BufRead, BufReader, Stdin};
+use std::io::{BufRead, BufReader, Split, Stdin};
 
-// The next line, without its line feed; none at the end.
-fn next_line(heap: Global, input: &mut BufReader<Stdin>) -> anyhow::Result<Option<Vec<u8>>> {
-    let mut line = Vec::new(heap);
-    if input.read_until(b'\n', &mut line)? == 0 {
-        return Ok(None);
-    }
-    if let Some(b'\n') = line.last().copied() {
-        let _ = line.pop();
-    }
-    Ok(Some(line))
-}
+// The lines that are still to be read.
+type Lines = Split<BufReader<Stdin>>;
 
 // Tries to open the next sitting, and says how that went.
 fn opened(rt: &HostRuntime, session: &Session, args: &[u8]) -> anyhow::Result<Option<Request>> {
@@ -39,14 +29,12 @@ fn opened(rt: &HostRuntime, session: &Session, args: &[u8]) -> anyhow::Result<Op
 // Answers lines while nothing is open, until a sitting can begin or no line is left.
 fn before_opening(
     rt: &HostRuntime,
-    input: &mut BufReader<Stdin>,
+    lines: &mut Lines,
     session: &mut Session,
 ) -> anyhow::Result<Option<Request>> {
     let heap = rt.alloc();
-    for _ in 0..u64::MAX {
-        let Some(line) = next_line(heap, input)? else {
-            return Ok(None);
-        };
+    for line in lines.by_ref() {
+        let line = line?;
         if let Some(Ask::Open(args)) = read_ask(line.as_slice()) {
             if let Some(request) = opened(rt, session, args)? {
                 return Ok(Some(request));
@@ -61,7 +49,7 @@ fn before_opening(
 // A sitting: answers lines until the next one can begin or no line is left.
 fn sit<K: ScriptKey, H: Holder<Key = K> + Drop>(
     rt: &HostRuntime,
-    input: &mut BufReader<Stdin>,
+    lines: &mut Lines,
     session: &mut Session,
     start: Start<K, H>,
 ) -> anyhow::Result<Option<Request>> {
@@ -72,10 +60,8 @@ fn sit<K: ScriptKey, H: Holder<Key = K> + Drop>(
         mut holder,
     } = start;
     let mut tracker = opening.track(table.as_mut_slice());
-    for _ in 0..u64::MAX {
-        let Some(line) = next_line(heap, input)? else {
-            return Ok(None);
-        };
+    for line in lines.by_ref() {
+        let line = line?;
         match read_ask(line.as_slice()) {
             Some(Ask::Open(args)) => {
                 if let Some(request) = opened(rt, session, args)? {
@@ -102,27 +88,28 @@ fn sit<K: ScriptKey, H: Holder<Key = K> + Drop>(
 
 fn sit_on(
     rt: &HostRuntime,
-    input: &mut BufReader<Stdin>,
+    lines: &mut Lines,
     session: &mut Session,
     request: Request,
 ) -> anyhow::Result<Option<Request>> {
     match request {
-        Request::Plain(start) => sit(rt, input, session, start),
-        Request::Elapsed(start) => sit(rt, input, session, start),
-        Request::Mark(start) => sit(rt, input, session, start),
-        Request::Turn(start) => sit(rt, input, session, start),
-        Request::PackedElapsed(start) => sit(rt, input, session, start),
-        Request::PackedTurn(start) => sit(rt, input, session, start),
+        Request::Plain(start) => sit(rt, lines, session, start),
+        Request::Elapsed(start) => sit(rt, lines, session, start),
+        Request::Mark(start) => sit(rt, lines, session, start),
+        Request::Turn(start) => sit(rt, lines, session, start),
+        Request::PackedElapsed(start) => sit(rt, lines, session, start),
+        Request::PackedTurn(start) => sit(rt, lines, session, start),
     }
 }
 
 pub fn run(rt: &HostRuntime) -> anyhow::Result<()> {
-    let mut input = BufReader::new(rt.alloc(), rt.stdin())?;
+    let heap = rt.alloc();
+    let mut lines = BufReader::new(heap, rt.stdin())?.split(heap, b'\n');
     let mut session = Session::new();
-    let mut next = before_opening(rt, &mut input, &mut session)?;
+    let mut next = before_opening(rt, &mut lines, &mut session)?;
     for _ in 0..u64::MAX {
         match next {
-            Some(request) => next = sit_on(rt, &mut input, &mut session, request)?,
+            Some(request) => next = sit_on(rt, &mut lines, &mut session, request)?,
             None => return Ok(()),
         }
     }
