@@ -1,4 +1,5 @@
 use std::alloc::{AllocError, Global};
+use std::iter;
 
 // Appends the line numbered `i`: its lowest bits say which fields it has.
 fn push_line(bytes: &mut Vec<u8>, i: u64) -> Result<(), AllocError> {
@@ -15,9 +16,7 @@ fn push_line(bytes: &mut Vec<u8>, i: u64) -> Result<(), AllocError> {
     if i & 8 != 0 {
         let n = (i / 16 % 60) as u8;
         bytes.push(n)?;
-        for _ in 0..n {
-            bytes.push(b'a')?;
-        }
+        bytes.extend(iter::repeat_n(b'a', usize::from(n)))?;
     }
     Ok(())
 }

@@ -7,24 +7,23 @@ use transcript::keys::elapsed::Elapsed;
 use transcript::view::Transcript;
 
 fn checksum(places: &[u32]) -> u64 {
-    let mut sum: u64 = 0;
-    for p in places {
-        sum = sum.wrapping_mul(31).wrapping_add(*p as u64);
-    }
-    sum
+    places.iter().fold(
+        0,
+        |sum: u64, place| sum.wrapping_mul(31).wrapping_add(u64::from(*place)),
+    )
 }
 
 // Every line of a view asked once: how many have a key, and a checksum of the keys.
 fn walked<V: Transcript<Key = Elapsed>>(view: &V) -> (u64, u64) {
-    let mut marked: u64 = 0;
-    let mut sum: u64 = 0;
-    for n in view.first()..view.total() {
-        if let Some(Elapsed(ms)) = view.line(n) {
-            marked = marked.wrapping_add(1);
-            sum = sum.wrapping_mul(31).wrapping_add(ms);
-        }
-    }
-    (marked, sum)
+    (view.first()..view.total())
+        .filter_map(|n| view.line(n))
+        .fold(
+            (0, 0),
+            |(marked, sum): (u64, u64), Elapsed(ms)| (
+                marked.wrapping_add(1),
+                sum.wrapping_mul(31).wrapping_add(ms),
+            ),
+        )
 }
 
 fn timed_scan(rt: &HostRuntime, bytes: &[u8], places: &mut [u32]) -> anyhow::Result<()> {

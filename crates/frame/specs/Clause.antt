@@ -61,6 +61,10 @@ wrong_in_bound t = refused WrongWord layers.Bound (span_of t)
 abbrev pub wrong_in_clause : Token → Refused
 wrong_in_clause t = refused WrongWord layers.Clause (span_of t)
 
+-- what is left after a keyword that has to stand here, or the word that does
+abbrev pub expected : Keyword → Rest → Result Rest Placed
+expected k r = cond (is k (first r)) (Ok (later r)) (Err (span_of (first r)))
+
 -- PRECEDING or FOLLOWING, and what is left
 abbrev pub side : WindowFrameBound → WindowFrameBound → Rest → Result (WindowFrameBound × Rest) Refused
 side before after r =

@@ -1,13 +1,12 @@
 -- What the reader's errors and answers say.
-use Rattle.std.specs.Prelude.{ℕ, List, Result}
+use Rattle.std.specs.Prelude.{Result}
 use Rattle.frame.specs.declared.errors.BoundError.{BoundError}
 use Rattle.frame.specs.declared.errors.BoundError.TheVariants as bound
 use Rattle.frame.specs.declared.errors.ClauseError.{ClauseError}
 use Rattle.frame.specs.declared.errors.ClauseError.TheVariants as clause
 use Rattle.frame.specs.declared.reader.ReadBound.{ReadBound}
-use Rattle.frame.specs.declared.reader.Parts.{Parts}
 use Rattle.frame.specs.declared.frame.WindowFrame.{WindowFrame}
-use Rattle.frame.specs.declared.refusal.Refusal.{Refusal}
+use Rattle.frame.specs.declared.clause.ClauseRefusal.{ClauseRefusal}
 use Rattle.frame.specs.declared.refusal.Reason.TheVariants.{ClauseTooLong, WrongWord, BadNumber, WordAfterClause, StartUnboundedFollowing, EndUnboundedPreceding}
 use Rattle.frame.specs.declared.refusal.Layer.TheVariants as layers
 use Rattle.words.specs.Faults.{both, fault}
@@ -31,9 +30,10 @@ told (clause.End s) = refused EndUnboundedPreceding layers.Clause (placed s)
 abbrev pub said : ReadBound → Said
 said b = record { bound = b.bound; at = placed b.at }
 
-abbrev pub parts_of : Parts → Frame
-parts_of p = record { units = p.units; start = p.start; end = p.end }
+-- why a clause is refused, with the word at fault
+abbrev pub told_clause : ClauseRefusal → Refused
+told_clause e = refusal_of e.refusal e.word.now
 
--- a frame or a refusal, with the word at fault beside it
-abbrev pub answer : Result WindowFrame Refusal → List ℕ → Result Frame Refused
-answer f w = both framed (λ r. refusal_of r w) f
+-- a frame or why it is refused, with the word at fault
+abbrev pub answer : Result WindowFrame ClauseRefusal → Result Frame Refused
+answer r = both framed told_clause r

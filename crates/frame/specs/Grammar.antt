@@ -1,7 +1,6 @@
 -- Which texts are a clause of which frame.
 use Rattle.std.specs.Prelude.{◌≡◌, ℕ, ◌≤◌, List, [], ◌∷◌, map, length, Ok, Err, codes, Result}
 use Rattle.frame.specs.declared.frame.WindowFrame.{WindowFrame}
-use Rattle.frame.specs.declared.refusal.Refusal.{Refusal}
 use Rattle.frame.specs.declared.bound.WindowFrameUnits.{WindowFrameUnits}
 use Rattle.frame.specs.declared.bound.WindowFrameUnits.TheVariants as units
 use Rattle.frame.specs.declared.bound.WindowFrameBound.{WindowFrameBound}
@@ -43,6 +42,6 @@ pub record ClauseOf (bs : List ℕ) (f : Frame) : Type 0 where
   pub admitted : Admitted f
 
 -- an answer is the frame of which the text is a clause, and no other is; or the text is a clause of none
-abbrev pub Reads : List ℕ → Result WindowFrame Refusal → Type 0
+abbrev pub Reads : {E : Type 0} → List ℕ → Result WindowFrame E → Type 0
 Reads bs (Ok g) = ClauseOf bs (framed g) × ((f : Frame) → ClauseOf bs f → f ≡ framed g)
 Reads bs (Err r) = (f : Frame) → ClauseOf bs f → ⊥

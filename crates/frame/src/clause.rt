@@ -1,4 +1,4 @@
-ghost use Rattle.std.specs.Prelude.{◌≡◌, true, [], is_ok};
+ghost use Rattle.std.specs.Prelude.{◌≡◌};
 ghost use Rattle.frame.specs.Clause.{clause};
 ghost use Rattle.frame.specs.Faults.{answer};
 ghost use Rattle.frame.specs.Grammar.{Reads};
@@ -8,32 +8,26 @@ use crate::frame::WindowFrame;
 use crate::reader::parse;
 use crate::refusal::Refusal;
 
-// What a clause text was read as: a frame, or why it is refused.
-#[derive(Clone, Copy)]
-pub struct Reading<'a> {
-    pub frame: Result<WindowFrame, Refusal>,
-    // the word at fault, a part of the clause; empty where there is none
+// Why a clause is refused.
+#[derive(Clone, Copy, Debug, PartialEq, Eq)]
+pub struct ClauseRefusal<'a> {
+    pub refusal: Refusal,
+    // the word at fault, a part of the clause; empty where it is missing
     pub word: &'a [u8],
 }
 
-pub fn read_clause<'a>(text: &'a [u8]) -> Reading<'a>
-    ensures value { answer result.frame result.word.now ≡ clause text.now }
-    ensures word { is_ok result.frame ≡ true → result.word.now ≡ [] }
-    ensures grammar { Reads text.now result.frame }
+impl<'a> From<ClauseRefusal<'a>> for Refusal {
+    ghost from_gives = { λ e r. r ≡ e.refusal };
+
+    fn from(e: ClauseRefusal<'a>) -> Refusal {
+        e.refusal
+    }
+}
+
+pub fn read_clause<'a>(text: &'a [u8]) -> Result<WindowFrame, ClauseRefusal<'a>>
+    ensures value { answer result ≡ clause text.now }
+    ensures grammar { Reads text.now result }
     ensures shown { ShownReadsBack }
 {
-    match parse(text) {
-        Ok(p) => Reading {
-            frame: Ok(WindowFrame {
-                units: p.units,
-                start_bound: p.start,
-                end_bound: p.end,
-            }),
-            word: &text[0..0],
-        },
-        Err(e) => Reading {
-            frame: Err(e.refusal()),
-            word: e.span().text,
-        },
-    }
+    Ok(parse(text)?)
 }

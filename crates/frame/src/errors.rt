@@ -1,23 +1,24 @@
 ghost use Rattle.std.specs.Prelude.{◌≡◌};
 ghost use Rattle.frame.specs.declared.errors.BoundError.TheVariants.{Word};
 ghost use Rattle.frame.specs.declared.errors.ClauseError.TheVariants.{Bound};
-ghost use Rattle.frame.specs.Refusals.{refusal_of, refused};
-ghost use Rattle.frame.specs.Faults.{told, told_bound};
+ghost use Rattle.frame.specs.Refusals.{refused};
+ghost use Rattle.frame.specs.Faults.{told, told_bound, told_clause};
 ghost use Rattle.words.specs.Tokens.{placed};
 
-use crate::refusal::{Layer, Reason, Refusal};
+use crate::clause::ClauseRefusal;
+use crate::refusal::{Layer, Reason};
 use words::number::WordError;
 use words::word::Span;
 
-// What is wrong with a bound.
-#[derive(Clone, Copy)]
+// What is wrong with a bound, and the word at fault.
+#[derive(Clone, Copy, Debug, PartialEq, Eq)]
 pub(crate) enum BoundError<'a> {
     Word(WordError<'a>),
     Wrong(Span<'a>),
 }
 
-// What is wrong with a clause.
-#[derive(Clone, Copy)]
+// What is wrong with a clause, and the word at fault.
+#[derive(Clone, Copy, Debug, PartialEq, Eq)]
 pub(crate) enum ClauseError<'a> {
     TooLong(Span<'a>),
     Bound(BoundError<'a>),
@@ -43,62 +44,38 @@ impl<'a> From<BoundError<'a>> for ClauseError<'a> {
     }
 }
 
-fn refuse(reason: Reason, layer: Layer, span: Span<'_>) -> Refusal
-    ensures { refusal_of result (placed span.entry).text ≡ refused reason layer (placed span.entry) }
+fn refuse<'a>(layer: Layer, reason: Reason, span: Span<'a>) -> ClauseRefusal<'a>
+    ensures { told_clause result ≡ refused reason layer (placed span.entry) }
 {
-    Refusal {
-        reason,
-        place: span.place as u64,
-        layer,
+    ClauseRefusal {
+        refusal: layer.refuse(reason, span.place as u64),
+        word: span.text,
     }
 }
 
-impl<'a> BoundError<'a> {
-    // The word at fault.
-    fn span(self) -> Span<'a>
-        ensures { placed result ≡ (told_bound self.entry).at }
-    {
-        match self {
-            BoundError::Word(WordError::BadNumber(s)) => s,
-            BoundError::Wrong(s) => s,
-        }
-    }
+impl<'a> From<BoundError<'a>> for ClauseRefusal<'a> {
+    ghost from_gives = { λ e r. told_clause r ≡ told_bound e };
 
-    fn refusal(self) -> Refusal
-        ensures { refusal_of result (told_bound self.entry).at.text ≡ told_bound self.entry }
-    {
-        match self {
-            BoundError::Word(WordError::BadNumber(s)) => refuse(Reason::BadNumber, Layer::Word, s),
-            BoundError::Wrong(s) => refuse(Reason::WrongWord, Layer::Bound, s),
+    fn from(e: BoundError<'a>) -> ClauseRefusal<'a> {
+        match e {
+            BoundError::Word(WordError::BadNumber(s)) => refuse(Layer::Word, Reason::BadNumber, s),
+            BoundError::Wrong(s) => refuse(Layer::Bound, Reason::WrongWord, s),
         }
     }
 }
 
-impl<'a> ClauseError<'a> {
-    // The word at fault, a part of the clause.
-    pub(crate) fn span(self) -> Span<'a>
-        ensures { placed result ≡ (told self.entry).at }
-    {
-        match self {
-            ClauseError::Bound(e) => e.span(),
-            ClauseError::TooLong(s)
-            | ClauseError::Wrong(s)
-            | ClauseError::After(s)
-            | ClauseError::Start(s)
-            | ClauseError::End(s) => s,
-        }
-    }
+impl<'a> From<ClauseError<'a>> for ClauseRefusal<'a> {
+    ghost from_gives = { λ e r. told_clause r ≡ told e };
 
-    pub(crate) fn refusal(self) -> Refusal
-        ensures { refusal_of result (told self.entry).at.text ≡ told self.entry }
-    {
-        match self {
-            ClauseError::TooLong(s) => refuse(Reason::ClauseTooLong, Layer::Clause, s),
-            ClauseError::Bound(e) => e.refusal(),
-            ClauseError::Wrong(s) => refuse(Reason::WrongWord, Layer::Clause, s),
-            ClauseError::After(s) => refuse(Reason::WordAfterClause, Layer::Clause, s),
-            ClauseError::Start(s) => refuse(Reason::StartUnboundedFollowing, Layer::Clause, s),
-            ClauseError::End(s) => refuse(Reason::EndUnboundedPreceding, Layer::Clause, s),
-        }
+    fn from(e: ClauseError<'a>) -> ClauseRefusal<'a> {
+        let (reason, span) = match e {
+            ClauseError::Bound(e) => return ClauseRefusal::from(e),
+            ClauseError::TooLong(s) => (Reason::ClauseTooLong, s),
+            ClauseError::Wrong(s) => (Reason::WrongWord, s),
+            ClauseError::After(s) => (Reason::WordAfterClause, s),
+            ClauseError::Start(s) => (Reason::StartUnboundedFollowing, s),
+            ClauseError::End(s) => (Reason::EndUnboundedPreceding, s),
+        };
+        refuse(Layer::Clause, reason, span)
     }
 }

@@ -1,13 +1,14 @@
-ghost use Rattle.std.specs.Prelude.{◌≡◌, ◌<◌, IfOk};
+ghost use Rattle.std.specs.Prelude.{◌≡◌};
 ghost use Rattle.words.specs.Cursor.{left};
 ghost use Rattle.words.specs.Faults.{both};
-ghost use Rattle.words.specs.Tokens.{token};
-ghost use Rattle.frame.specs.Bounds.{kind};
-ghost use Rattle.frame.specs.Clause.{unit, joint, side, row, bound, extent, judged, clause};
-ghost use Rattle.frame.specs.Faults.{told, told_bound, said, parts_of};
+ghost use Rattle.words.specs.Tokens.{placed, token};
+ghost use Rattle.frame.specs.Frames.{framed};
+ghost use Rattle.frame.specs.Clause.{unit, expected, joint, side, bound, pair, extent, judged, clause};
+ghost use Rattle.frame.specs.Faults.{told, told_bound, said};
 
 use crate::bound::{WindowFrameBound, WindowFrameUnits};
 use crate::errors::{BoundError, ClauseError};
+use crate::frame::WindowFrame;
 use words::cursor::Words;
 use words::letters::Keyword;
 use words::word::{Span, Word};
@@ -17,14 +18,6 @@ use words::word::{Span, Word};
 pub(crate) struct ReadBound<'a> {
     bound: WindowFrameBound,
     at: Span<'a>,
-}
-
-// What a clause says.
-#[derive(Clone, Copy)]
-pub(crate) struct Parts {
-    pub(crate) units: WindowFrameUnits,
-    pub(crate) start: WindowFrameBound,
-    pub(crate) end: WindowFrameBound,
 }
 
 // PRECEDING or FOLLOWING.
@@ -43,14 +36,13 @@ fn read_side<'a>(
     }
 }
 
-// The ROW of CURRENT ROW.
-fn read_row<'a>(words: &mut Words<'a>) -> Result<WindowFrameBound, BoundError<'a>>
-    ensures { both (λ b. (b, left words.new)) told_bound result ≡ row (left words.old) }
+// A keyword that has to stand here, or the word that does.
+fn read_keyword<'a>(words: &mut Words<'a>, wanted: Keyword) -> Result<(), Span<'a>>
+    ensures { both (λ _. left words.new) placed result ≡ expected wanted (left words.old) }
 {
-    let word = words.next();
-    match word {
-        Word::Key(Keyword::Row, _) => Ok(WindowFrameBound::CurrentRow),
-        _ => Err(BoundError::Wrong(word.span())),
+    match words.next() {
+        Word::Key(keyword, _) if keyword == wanted => Ok(()),
+        word => Err(word.span()),
     }
 }
 
@@ -66,7 +58,10 @@ fn read_bound<'a>(first: Word<'a>, words: &mut Words<'a>) -> Result<ReadBound<'a
                 WindowFrameBound::UnboundedFollowing,
             )?
         }
-        Word::Key(Keyword::Current, _) => read_row(words)?,
+        Word::Key(Keyword::Current, _) => {
+            read_keyword(words, Keyword::Row).map_err(BoundError::Wrong)?;
+            WindowFrameBound::CurrentRow
+        }
         Word::Number(span) => {
             let n = span.number()?;
             read_side(
@@ -95,14 +90,23 @@ fn read_unit<'a>(words: &mut Words<'a>) -> Result<WindowFrameUnits, ClauseError<
     }
 }
 
+// The AND between two bounds.
 fn read_and<'a>(words: &mut Words<'a>) -> Result<(), ClauseError<'a>>
     ensures { both (λ _. left words.new) told result ≡ joint (left words.old) }
 {
-    let word = words.next();
-    match word {
-        Word::Key(Keyword::And, _) => Ok(()),
-        _ => Err(ClauseError::Wrong(word.span())),
-    }
+    read_keyword(words, Keyword::And).map_err(ClauseError::Wrong)
+}
+
+// Bound AND bound.
+fn read_pair<'a>(words: &mut Words<'a>) -> Result<(ReadBound<'a>, ReadBound<'a>), ClauseError<'a>>
+    ensures { both (λ x. (said x.0, said x.1, left words.new)) told result ≡ pair (left words.old) }
+{
+    let first = words.next();
+    let start = read_bound(first, words)?;
+    read_and(words)?;
+    let first = words.next();
+    let end = read_bound(first, words)?;
+    Ok((start, end))
 }
 
 // One bound, or BETWEEN bound AND bound. A missing end is CURRENT ROW.
@@ -110,26 +114,15 @@ fn read_extent<'a>(words: &mut Words<'a>) -> Result<(ReadBound<'a>, ReadBound<'a
     ensures { both (λ x. (said x.0, said x.1, left words.new)) told result ≡ extent (left words.old) }
 {
     let word = words.next();
-    match word {
-        Word::Key(Keyword::Between, _) => {
-            let first = words.next();
-            let start = read_bound(first, words)?;
-            read_and(words)?;
-            let first = words.next();
-            let end = read_bound(first, words)?;
-            Ok((start, end))
-        }
-        _ => {
-            let start = read_bound(word, words)?;
-            Ok((
-                start,
-                ReadBound {
-                    bound: WindowFrameBound::CurrentRow,
-                    at: start.at,
-                },
-            ))
-        }
+    if let Word::Key(Keyword::Between, _) = word {
+        return read_pair(words);
     }
+    let start = read_bound(word, words)?;
+    let end = ReadBound {
+        bound: WindowFrameBound::CurrentRow,
+        at: start.at,
+    };
+    Ok((start, end))
 }
 
 // What is asked of a clause once its bounds have been read.
@@ -138,31 +131,28 @@ fn judge<'a>(
     units: WindowFrameUnits,
     start: ReadBound<'a>,
     end: ReadBound<'a>,
-) -> Result<Parts, ClauseError<'a>>
-    ensures sound { IfOk result (λ p. (kind p.start < 4) × (0 < kind p.end)) }
-    ensures value { both parts_of told result ≡ judged units (said start.entry, said end.entry, left words.old) }
+) -> Result<WindowFrame, ClauseError<'a>>
+    ensures { both framed told result ≡ judged units (said start.entry, said end.entry, left words.old) }
 {
     let word = words.next();
-    match word {
-        Word::Missing(_) => {}
-        _ => return Err(ClauseError::After(word.span())),
-    }
+    let Word::Missing(_) = word else {
+        return Err(ClauseError::After(word.span()));
+    };
     if let WindowFrameBound::UnboundedFollowing = start.bound {
         return Err(ClauseError::Start(start.at));
     }
     if let WindowFrameBound::UnboundedPreceding = end.bound {
         return Err(ClauseError::End(end.at));
     }
-    Ok(Parts {
+    Ok(WindowFrame {
         units,
-        start: start.bound,
-        end: end.bound,
+        start_bound: start.bound,
+        end_bound: end.bound,
     })
 }
 
-pub(crate) fn parse<'a>(text: &'a [u8]) -> Result<Parts, ClauseError<'a>>
-    ensures sound { IfOk result (λ p. (kind p.start < 4) × (0 < kind p.end)) }
-    ensures value { both parts_of told result ≡ clause text.now }
+pub(crate) fn parse<'a>(text: &'a [u8]) -> Result<WindowFrame, ClauseError<'a>>
+    ensures { both framed told result ≡ clause text.now }
 {
     if text.len() > 256 {
         return Err(ClauseError::TooLong(Span {

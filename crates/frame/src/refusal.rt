@@ -58,6 +58,17 @@ impl Reason {
 }
 
 impl Layer {
+    // A refusal that arises here.
+    pub fn refuse(self, reason: Reason, place: u64) -> Refusal
+        ensures { result ≡ record { reason = reason; place = place; layer = self } }
+    {
+        Refusal {
+            reason,
+            place,
+            layer: self,
+        }
+    }
+
     pub fn number(self) -> u8
         ensures { result ≡ layer_of self }
     {

@@ -1,20 +1,22 @@
 ghost use Rattle.std.specs.Prelude.{Some};
-ghost use Rattle.frame.specs.Shown.{unit_text, bound_text, frame_text};
+ghost use Rattle.frame.specs.Shown.{unit_text, bound_text, frame_text, refusal_text};
 ghost use Rattle.frame.specs.Frames.{framed};
 
 use crate::bound::{WindowFrameBound, WindowFrameUnits};
 use crate::frame::WindowFrame;
+use crate::refusal::Refusal;
+use std::error::Error;
 use std::fmt;
 
 impl fmt::Display for WindowFrameUnits {
     ghost output = { λ u. Some (unit_text u) };
 
     fn fmt<W: fmt::Write>(&self, f: &mut fmt::Formatter<W>) -> fmt::Result {
-        match self {
-            WindowFrameUnits::Rows => f.write_str("ROWS"),
-            WindowFrameUnits::Range => f.write_str("RANGE"),
-            WindowFrameUnits::Groups => f.write_str("GROUPS"),
-        }
+        f.write_str(match self {
+            WindowFrameUnits::Rows => "ROWS",
+            WindowFrameUnits::Range => "RANGE",
+            WindowFrameUnits::Groups => "GROUPS",
+        })
     }
 }
 
@@ -42,3 +44,16 @@ impl fmt::Display for WindowFrame {
         write!(f, "{units} BETWEEN {start} AND {end}")
     }
 }
+
+impl fmt::Display for Refusal {
+    ghost output = { λ r. Some (refusal_text r) };
+
+    fn fmt<W: fmt::Write>(&self, f: &mut fmt::Formatter<W>) -> fmt::Result {
+        let number = self.reason.number();
+        let place = self.place;
+        let layer = self.layer.number();
+        write!(f, "refused {number} place {place} layer {layer}")
+    }
+}
+
+impl Error for Refusal {}

@@ -5,7 +5,7 @@ use crate::bound::WindowFrameBound;
 
 impl WindowFrameBound {
     // The bound with PRECEDING for FOLLOWING, and back.
-    pub(crate) fn turn(self) -> WindowFrameBound
+    pub fn turn(self) -> WindowFrameBound
         ensures { result ≡ turned self }
     {
         match self {

@@ -1,5 +1,5 @@
 -- Counts of numbers that pass a test.
-use Rattle.std.proofs.Common.{◌≡◌, ℕ, zero, suc, ◌+◌, ◌-◌, ◌<◌, ◌≤◌, min, Bool, true, false, cond, ltb, sym, refl, ◌∙◌, ⊎_elim, arith}
+use Rattle.std.proofs.Common.{◌≡◌, ℕ, zero, suc, ◌+◌, ◌-◌, ◌<◌, ◌≤◌, min, Bool, true, false, ltb, sym, refl, ◌∙◌, ⊎_elim, arith}
 use Rattle.std.proofs.lemmas.Bool.{cases_Bool, cases_lt, lt-ltb, le-ltb}
 use Rattle.meaning.specs.Counts.{how_many, Front}
 
@@ -113,7 +113,3 @@ found p n k f h a z =
     (λ (l : k < n). omega (arith, fails_past p n k f l (z l), front_cut p n k f h))
     (λ (g : n ≤ k). let e : n ≡ k = omega arith in rw e c)
     (cases_lt k n)
-
--- the count by a loop's step
-pub count_more : (p : ℕ → Bool) (n : ℕ) → how_many p (n + 1) ≡ how_many p n + cond (p n) 1 0
-count_more p n = let e : n + 1 ≡ suc n = omega arith in rw e

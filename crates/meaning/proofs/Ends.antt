@@ -228,18 +228,6 @@ reached_monotone L none same F CurrentRow t u i k h w v z l = later_turn none sa
 reached_monotone L none same F (Following n) t u i k h w v z l = omega (arith, later_turn none same F t u i k h w v z l, more_turns none same F t u i k h w v z l)
 reached_monotone L none same F UnboundedFollowing t u i k h w v z l = later_turn none same F t u i k h w v z l
 
--- for a loop: the ends still to find, from line j on
-abbrev pub ends_from : {L : Type 0} → L → (L → L → Bool) → List L → ℕ → List ℕ
-ends_from none same xs j = filter (is_end none same xs) (range_with_len (j + 1) (length xs - j))
-
-pub ends_step : {L : Type 0} (none : L) (same : L → L → Bool) (xs : List L) (j : ℕ) → j < length xs → ends_from none same xs j ≡ cond (is_end none same xs (j + 1)) ((j + 1) ∷ ends_from none same xs (j + 1)) (ends_from none same xs (j + 1))
-ends_step none same xs j h =
-    let e : length xs - j ≡ suc (length xs - (j + 1)) = omega arith in
-    rw e
-
-pub ends_done : {L : Type 0} (none : L) (same : L → L → Bool) (xs : List L) (j : ℕ) → length xs ≤ j → ends_from none same xs j ≡ []
-ends_done none same xs j h = let e : length xs - j ≡ 0 = omega arith in rw e
-
 -- a filter of numbers past f
 all_past : (p : ℕ → Bool) (f a n : ℕ) → f < a → filter (λ e. ltb f e) (filter p (range_with_len a n)) ≡ filter p (range_with_len a n)
 all_past p f a zero h = refl

@@ -1,8 +1,8 @@
 -- Walks from a number on, and what they have to do with counts.
 use Rattle.std.proofs.Common.{◌≡◌, ℕ, zero, suc, ◌+◌, ◌-◌, ◌<◌, ◌≤◌, Bool, true, false, cond, sym, refl, ap, ◌∙◌, subst, ⊎_elim, arith}
 use Rattle.std.proofs.lemmas.Bool.{cases_Bool, cases_lt}
-use Rattle.meaning.specs.Counts.{how_many, Front, how_many_from, walk, WalkCounts}
-use Rattle.meaning.proofs.Counts.{count_yes, count_no, found}
+use Rattle.meaning.specs.Counts.{how_many, Front, walk, WalkCounts}
+use Rattle.meaning.proofs.Counts.{found}
 
 module _ (p : ℕ → Bool) where
   abbrev went : ℕ → ℕ → Bool → ℕ
@@ -26,19 +26,6 @@ module _ (p : ℕ → Bool) where
       ∙ walked m (a + 1) n (omega arith) f (omega arith) (λ j l. ⊎_elim (λ (w : j < a). y j w) (λ (w : a ≤ j). let d : a ≡ j = omega arith in subst (λ (i : ℕ). p i ≡ true) d t) (cases_lt j a)))
       (λ (t : p a ≡ false). ap (went a m) t ∙ sym (found p n a f h y (λ l. t)))
       (cases_Bool (p a))
-
-  -- one number more
-  pub from_yes : (a n : ℕ) → a ≤ n → p n ≡ true → how_many_from p a (n + 1 - a) ≡ how_many_from p a (n - a) + 1
-  from_yes a n h y =
-      let e : n + 1 - a ≡ suc (n - a) = omega arith in
-      let d : n ≡ a + (n - a) = omega arith in
-      ap (how_many_from p a) e ∙ count_yes (λ j. p (a + j)) (n - a) (subst (λ (i : ℕ). p i ≡ true) d y)
-
-  pub from_no : (a n : ℕ) → a ≤ n → p n ≡ false → how_many_from p a (n + 1 - a) ≡ how_many_from p a (n - a)
-  from_no a n h y =
-      let e : n + 1 - a ≡ suc (n - a) = omega arith in
-      let d : n ≡ a + (n - a) = omega arith in
-      ap (how_many_from p a) e ∙ count_no (λ j. p (a + j)) (n - a) (subst (λ (i : ℕ). p i ≡ false) d y)
 
 pub walk_counts : WalkCounts
 walk_counts p n a f h y = walked p (n - a) a n refl f h y

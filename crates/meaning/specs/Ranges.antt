@@ -1,5 +1,5 @@
 -- RANGE: lines in their order, and the window as two counts.
-use Rattle.std.specs.Prelude.{◌≡◌, ℕ, ◌+◌, ◌-◌, ◌<◌, ◌≤◌, Bool, true, false, not, List, map, length, ℤ, pos, ◌+ℤ◌, ◌-ℤ◌, neg_ℤ, Some, None, count_by, int_le, int_lt, nat_lt, slice_index_or}
+use Rattle.std.specs.Prelude.{◌≡◌, ℕ, ◌+◌, ◌-◌, ◌<◌, ◌≤◌, Bool, true, false, not, List, map, length, ℤ, pos, ◌+ℤ◌, ◌-ℤ◌, neg_ℤ, Some, None, count_by, int_lt, nat_lt, slice_index_or}
 use Rattle.frame.specs.declared.bound.WindowFrameBound.{WindowFrameBound}
 use Rattle.frame.specs.declared.bound.WindowFrameBound.TheVariants.{UnboundedPreceding, Preceding, CurrentRow, Following, UnboundedFollowing}
 use Rattle.meaning.specs.Lines.{Line}
@@ -11,11 +11,6 @@ use Rattle.meaning.specs.Edges.{Edge}
 abbrev pub rank_before : Bool → ℤ → ℤ → Bool
 rank_before false a b = int_lt a b
 rank_before true a b = int_lt b a
-
--- rank b comes at most n after rank a
-abbrev pub rank_within : Bool → ℤ → ℤ → ℕ → Bool
-rank_within false a b n = int_le (b -ℤ a) (pos n)
-rank_within true a b n = int_le (a -ℤ b) (pos n)
 
 -- the rank n back from a, and n on
 abbrev pub back : Bool → ℤ → ℕ → ℤ
@@ -46,12 +41,9 @@ abbrev pub target : SortOptions → WindowFrameBound → Line → Line
 target o b (Some a) = Some (rank_target o.descending b a)
 target o b None = None
 
--- a key of rank x is ordered before the target of a bound from a key of rank y, and is not ordered after it
+-- a key of rank x is ordered before the target of a bound from a key of rank y
 abbrev pub key_leads : Bool → WindowFrameBound → ℤ → ℤ → Bool
 key_leads d b x y = rank_before d x (rank_target d b y)
-
-abbrev pub key_reaches : Bool → WindowFrameBound → ℤ → ℤ → Bool
-key_reaches d b x y = not (rank_before d (rank_target d b y) x)
 
 -- how many lines are ordered before y, and how many are not after it
 abbrev pub lead : SortOptions → List Line → Line → ℕ

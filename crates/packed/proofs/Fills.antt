@@ -1,8 +1,7 @@
 -- One step of the second pass.
-use Rattle.std.proofs.Common.{◌≡◌, ℕ, ◌+◌, ◌-◌, ◌<◌, ◌≤◌, true, false, List, [], ◌∷◌, ◌++◌, length, get_or, take, drop, set, is_ok, Ok, Err, Result, sym, refl, ap, ◌∙◌, inl, inr, append_assoc, arith}
-use Rattle.std.proofs.lemmas.List.{drop_more, drop_all, take_all, take-append-drop, take_more_set, drop-set-lt, append-nil}
+use Rattle.std.proofs.Common.{◌≡◌, ℕ, ◌+◌, ◌-◌, ◌<◌, true, false, List, [], ◌∷◌, ◌++◌, length, get_or, take, drop, set, is_ok, Ok, Err, Result, sym, refl, ap, ◌∙◌, inl, inr, append_assoc, arith}
+use Rattle.std.proofs.lemmas.List.{drop_more, take_more_set, drop-set-lt}
 use Rattle.std.proofs.lemmas.Bool.{cases_lt, true≢false}
-use Rattle.packed.specs.declared.line.LineFault.{LineFault}
 use Rattle.packed.specs.Fields.{Line, line_of}
 use Rattle.packed.proofs.Tails.{line_tail}
 use Rattle.packed.specs.Scans.{walk_of, filled}
@@ -11,27 +10,14 @@ use Rattle.packed.proofs.Walks.{far, on}
 cons_line : (e : ℕ) (es : List ℕ) (at : ℕ) (r : List ℕ) (x : Line × List ℕ) → Ok x ≡ line_of r → filled (e ∷ es) at r ≡ at ∷ filled es (at + (length r - length x.1)) x.1
 cons_line e es at r x w = rw (← w)
 
-stays : (es : List ℕ) (at : ℕ) (r : List ℕ) (f : LineFault) → Err f ≡ line_of r → filled es at r ≡ es
-stays [] at r f w = refl
-stays (e ∷ es) at r f w = rw (← w)
-
 -- the table as it stands and what is left to fill
 abbrev pub half : List ℕ → ℕ → ℕ → List ℕ → List ℕ
 half t i at r = take i t ++ filled (drop i t) at r
-
-pub half_none : (t : List ℕ) (r : List ℕ) → half t 0 0 r ≡ filled t 0 r
-half_none t r = refl
 
 pub half_more : (t : List ℕ) (i at : ℕ) (r : List ℕ) (x : Line × List ℕ) → i < length t → Ok x ≡ line_of r → half (set t i at) (i + 1) (at + (length r - length x.1)) x.1 ≡ half t i at r
 half_more t i at r x h w =
     let lt : i < i + 1 = omega arith in
     rw (take_more_set t i at h, drop-set-lt (i + 1) t i at lt, append_assoc (take i t) (at ∷ []) _, drop_more t i 0 h, cons_line (get_or t i 0) (drop (i + 1) t) at r x w)
-
-pub half_stops : (t : List ℕ) (i at : ℕ) (r : List ℕ) (f : LineFault) → Err f ≡ line_of r → half t i at r ≡ t
-half_stops t i at r f w = ap (λ (z : List ℕ). take i t ++ z) (stays (drop i t) at r f w) ∙ take-append-drop i t
-
-pub half_all : (t : List ℕ) (i at : ℕ) (r : List ℕ) → length t ≤ i → half t i at r ≡ t
-half_all t i at r h = rw (drop_all i t h, take_all i t h, append-nil t)
 
 no : {A E : Type 0} (r : Result A E) (e : E) → r ≡ Err e → is_ok r ≡ true → ⊥
 no r e p q = true≢false (sym q ∙ ap is_ok p)

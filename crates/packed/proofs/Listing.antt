@@ -1,18 +1,18 @@
 -- A scan and the relation between bytes and lists of lines agree.
-use Rattle.std.proofs.Common.{◌≡◌, ℕ, zero, suc, ◌+◌, ◌-◌, ◌^◌, ◌<◌, ◌≤◌, Bool, true, false, cond, ltb, leb, List, [], ◌∷◌, ◌++◌, length, get_or, take, drop, is_ok, Ok, Err, Result, sym, refl, ap, ◌∙◌, subst, arith, length-append}
-use Rattle.std.proofs.lemmas.List.{take-append-le, take_all}
-use Rattle.std.proofs.lemmas.Bool.{ltb-true, leb-true, le-leb}
+use Rattle.std.proofs.Common.{◌≡◌, ℕ, zero, suc, ◌+◌, ◌-◌, ◌^◌, ◌<◌, ◌≤◌, Bool, true, false, cond, leb, List, [], ◌∷◌, ◌++◌, length, get_or, take, drop, is_ok, Ok, Err, Result, sym, refl, ap, ◌∙◌, subst, arith, length-append}
+use Rattle.std.proofs.Math.Seq.{take-append_seam}
+use Rattle.std.proofs.lemmas.Bool.{leb-true, le-leb}
 use Rattle.std.specs.List.{AllByRecursion}
 use Rattle.frame.specs.declared.refusal.Refusal.{Refusal}
-use Rattle.frame.specs.declared.refusal.Reason.TheVariants as reasons
 use Rattle.transcript.specs.Lines.{too_many}
 use Rattle.packed.specs.declared.line.LineFault.{LineFault}
-use Rattle.packed.specs.Fields.{Line, line_of}
-use Rattle.packed.specs.Scans.{by_line, refuse, reason_of, walk_of, limited, scan_of, filled}
+use Rattle.packed.specs.Fields.{Line}
+use Rattle.packed.specs.Scans.{by_line, walk_of, limited, scan_of, filled}
 use Rattle.packed.specs.Views.{first_lines}
 use Rattle.packed.specs.Spells.{LineBytes, LinesAt, none, line, Room, Listed, Scanned}
 use Rattle.packed.proofs.Spelled.{line_read, line_from}
 use Rattle.packed.proofs.Walks.{one_of, near}
+use Rattle.packed.proofs.Walked.{step, grows}
 
 -- every element is a byte
 abbrev pub Bytes : List ℕ → Type 0
@@ -75,40 +75,27 @@ walk_lines {p = p} (e ∷ es) n (line x bs rest {ps = ps} l d) h fit =
 Found : List ℕ → ℕ → List ℕ → ℕ → Type 0
 Found es at bs k = (xs : List Line) × (ps : List ℕ) × LinesAt at bs xs ps × (length ps ≡ k) × (length ps ≤ length es) × AllByRecursion (λ q. q < 2 ^ 32) ps
 
-inverted : (b : Bool) (l : Result (Line × List ℕ) LineFault) (d : Refusal) (g : LineFault → Refusal) (w : Line × List ℕ → Result ℕ Refusal) (m : ℕ) → cond b (by_line l w (λ f. Err (g f))) (Err d) ≡ Ok m → (b ≡ true) × ((x : Line × List ℕ) × (Ok x ≡ l) × (w x ≡ Ok m))
-inverted true (Ok x) d g w m e = (refl, (x, refl, e))
-inverted true (Err f) d g w m e = let z : ◌≡◌ {A = ℕ} 0 1 = cc in absurd (omega arith)
-inverted false l d g w m e = let z : ◌≡◌ {A = ℕ} 0 1 = cc in absurd (omega arith)
-
-grows : (es : List ℕ) (n at : ℕ) (bs : List ℕ) (m : ℕ) → walk_of false es n at bs ≡ Ok m → n ≤ m
-grows [] n at [] m w = let z : n ≡ m = cc in omega arith
-grows (e ∷ es) n at [] m w = let z : n ≡ m = cc in omega arith
-grows [] n at (b ∷ bs) m w = let z : ◌≡◌ {A = ℕ} 0 1 = cc in absurd (omega arith)
-grows (e ∷ es) n at (b ∷ bs) m w =
-    let p = inverted (ltb at 4294967296) (line_of (b ∷ bs)) (refuse reasons.NoPlaceEntry at) (λ f. refuse (reason_of f) at) (λ x. walk_of false es (n + 1) (at + (length (b ∷ bs) - length x.1)) x.1) m w in
-    let h = grows es (n + 1) _ p.1.0.1 m p.1.2 in omega arith
-
 found : (es : List ℕ) (n at : ℕ) (bs : List ℕ) (k : ℕ) → Bytes bs → walk_of false es n at bs ≡ Ok (n + k) → Found es at bs k
 unfolding Found
 found [] n at [] k h w = let z : n ≡ n + k = cc in ([], [], none, omega arith, omega arith, tt)
 found (e ∷ es) n at [] k h w = let z : n ≡ n + k = cc in ([], [], none, omega arith, omega arith, tt)
 found [] n at (b ∷ bs) k h w = let z : ◌≡◌ {A = ℕ} 0 1 = cc in absurd (omega arith)
 found (e ∷ es) n at (b ∷ bs) zero h w =
-    let p = inverted (ltb at 4294967296) (line_of (b ∷ bs)) (refuse reasons.NoPlaceEntry at) (λ f. refuse (reason_of f) at) (λ x. walk_of false es (n + 1) (at + (length (b ∷ bs) - length x.1)) x.1) (n + 0) w in
-    let g = grows es (n + 1) _ p.1.0.1 (n + 0) p.1.2 in absurd (omega arith)
+    let p = step false e es n at b bs (n + 0) w in
+    let g = grows false es (n + 1) _ p.0.1 (n + 0) p.3 in absurd (omega arith)
 found (e ∷ es) n at (b ∷ bs) (suc k) h w =
-    let p = inverted (ltb at 4294967296) (line_of (b ∷ bs)) (refuse reasons.NoPlaceEntry at) (λ f. refuse (reason_of f) at) (λ x. walk_of false es (n + 1) (at + (length (b ∷ bs) - length x.1)) x.1) (n + suc k) w in
-    let x = p.1.0 in
-    let l = line_from (b ∷ bs) x (h 0) p.1.1 in
+    let p = step false e es n at b bs (n + suc k) w in
+    let x = p.0 in
+    let l = line_from (b ∷ bs) x (h 0) p.1 in
     let size : length (b ∷ bs) - length x.1 ≡ length l.0 = ap (λ (z : List ℕ). length z - length x.1) l.2 ∙ long l.0 x.1 in
-    let w' : walk_of false es (n + 1) (at + length l.0) x.1 ≡ Ok (n + 1 + k) = ap (λ (m : ℕ). walk_of false es (n + 1) (at + m) x.1) (sym size) ∙ p.1.2 ∙ ap Ok (omega arith) in
+    let w' : walk_of false es (n + 1) (at + length l.0) x.1 ≡ Ok (n + 1 + k) = ap (λ (m : ℕ). walk_of false es (n + 1) (at + m) x.1) (sym size) ∙ p.3 ∙ ap Ok (omega arith) in
     let f = found es (n + 1) (at + length l.0) x.1 k (bytes_rest l.0 x.1 (b ∷ bs) l.2 h) w' in (
       x.0 ∷ f.0,
       at ∷ f.1,
       subst (λ (z : List ℕ). LinesAt at z (x.0 ∷ f.0) (at ∷ f.1)) (sym l.2) (line x.0 l.0 x.1 l.1 f.2),
       omega (arith, f.3),
       omega (arith, f.4),
-      (omega (arith, ltb-true at 4294967296 p.0), f.5),
+      (omega (arith, p.4), f.5),
     )
 
 kept : (t : Bool) (n k m : ℕ) → leb (n + k) 4294967295 ≡ t → ◌≡◌ {A = Result ℕ Refusal} (cond t (Ok k) (Err too_many)) (Ok m) → (k ≡ m) × (n + m ≤ 4294967295)
@@ -120,10 +107,7 @@ few_enough n (Err e) m h = let z : ◌≡◌ {A = ℕ} 0 1 = cc in absurd (omega
 few_enough n (Ok k) m h = let q = kept (leb (n + k) 4294967295) n k m refl h in (ap Ok q.0, q.1)
 
 same_front : (ps qs zs ys : List ℕ) → length ps ≡ length qs → ps ++ zs ≡ qs ++ ys → ps ≡ qs
-same_front ps qs zs ys l e =
-    sym (take-append-le (length ps) ps zs (omega arith) ∙ take_all (length ps) ps (omega arith))
-    ∙ ap (take (length ps)) e ∙ ap (λ (n : ℕ). take n (qs ++ ys)) l
-    ∙ take-append-le (length qs) qs ys (omega arith) ∙ take_all (length qs) qs (omega arith)
+same_front ps qs zs ys l e = sym (take-append_seam ps zs) ∙ ap (take (length ps)) e ∙ ap (λ (n : ℕ). take n (qs ++ ys)) l ∙ take-append_seam qs ys
 
 pub listed : (bs es : List ℕ) (n : ℕ) → Bytes bs → scan_of es bs ≡ Ok n → Listed bs es (filled es 0 bs) n
 unfolding Found

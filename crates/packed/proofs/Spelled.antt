@@ -1,6 +1,7 @@
 -- The reading of a line and the relation between bytes and lines agree.
 use Rattle.std.proofs.Common.{◌≡◌, ℕ, zero, suc, ◌+◌, ◌*◌, ◌<◌, ◌≤◌, Bool, true, false, cond, ◌&&◌, eqb, leb, List, [], ◌∷◌, ◌++◌, length, get_or, take, drop, is_some, Some, None, Ok, Err, Option, Result, sym, refl, ap, ◌∙◌, subst, ⊎_elim, append_assoc, arith, length-append}
-use Rattle.std.proofs.lemmas.List.{take-append-drop, take-append-le, length-take-le, take_all}
+use Rattle.std.proofs.Math.Seq.{take-append_seam, drop-append_seam}
+use Rattle.std.proofs.lemmas.List.{take-append-drop, length-take-le}
 use Rattle.std.proofs.lemmas.Bool.{and_parts, cases_lt, eqb-true, leb-true, le-leb}
 use Rattle.packed.specs.declared.line.LineFault.{LineFault}
 use Rattle.packed.specs.declared.line.LineFault.TheVariants.{UnknownBits, CutShort}
@@ -8,7 +9,7 @@ use Rattle.packed.specs.Fields.{Line, next, little, number, field, text_of, stan
 use Rattle.packed.specs.Spells.{Number, FieldBytes, TextBytes, bit_map, LineBytes}
 use Rattle.packed.specs.Spells as spells
 use Rattle.packed.proofs.Steps.{tail_line, whole}
-use Rattle.packed.proofs.Tails.{next_ok}
+use Rattle.packed.proofs.Tails.{next_ok, cond_in}
 
 -- a test that passes at every number below n
 abbrev below : (ℕ → Bool) → ℕ → Bool
@@ -61,14 +62,7 @@ number_is : {bs : List ℕ} {n : ℕ} → Number bs n → little bs ≡ n
 number_is spells.none = refl
 number_is (spells.byte b h) = ap (λ (m : ℕ). b + m * 256) (number_is h)
 
--- the front of a list that is put together, and its rest
-front : (xs ys : List ℕ) → take (length xs) (xs ++ ys) ≡ xs
-front xs ys = take-append-le (length xs) xs ys (omega arith) ∙ take_all (length xs) xs (omega arith)
-
-rest_is : (xs ys : List ℕ) → drop (length xs) (xs ++ ys) ≡ ys
-rest_is [] ys = refl
-rest_is (x ∷ xs) ys = rest_is xs ys
-
+-- the front of a list that is put together is no longer than the whole
 longer : (xs ys : List ℕ) → leb (length xs) (length (xs ++ ys)) ≡ true
 longer xs ys = le-leb _ _ (omega (arith, length-append xs ys))
 
@@ -78,9 +72,9 @@ field_read rest spells.absent = refl
 field_read rest (spells.present {n = n} {bs = bs} l h) =
     ap (λ (k : ℕ). field true k (bs ++ rest)) (sym l)
     ∙ ap (λ (t : Bool). next (cond t (Ok (little (take (length bs) (bs ++ rest)), drop (length bs) (bs ++ rest))) (Err CutShort)) (λ (x : ℕ × List ℕ). Ok (Some x.0, x.1))) (longer bs rest)
-    ∙ ap (λ (xs : List ℕ). Ok (Some (little xs), drop (length bs) (bs ++ rest))) (front bs rest)
+    ∙ ap (λ (xs : List ℕ). Ok (Some (little xs), drop (length bs) (bs ++ rest))) (take-append_seam bs rest)
     ∙ ap (λ (m : ℕ). Ok (Some m, drop (length bs) (bs ++ rest))) (number_is h)
-    ∙ ap (λ (xs : List ℕ). Ok (Some n, xs)) (rest_is bs rest)
+    ∙ ap (λ (xs : List ℕ). Ok (Some n, xs)) (drop-append_seam bs rest)
 
 text_read : {o : Option (List ℕ)} {s : List ℕ} (rest : List ℕ) → TextBytes o s → text_of (is_some o) (s ++ rest) ≡ Ok (o, rest)
 text_read rest spells.absent = refl
@@ -91,8 +85,8 @@ text_read rest (spells.present t) =
     ap (λ (b : Bool). next (cond b (Ok (length t + 0 * 256, t ++ rest)) (Err CutShort)) got) enough
     ∙ ap (λ (m : ℕ). got (m, t ++ rest)) one
     ∙ ap (λ (b : Bool). cond b (Ok (Some (take (length t) (t ++ rest)), drop (length t) (t ++ rest))) (Err CutShort)) (longer t rest)
-    ∙ ap (λ (xs : List ℕ). Ok (Some xs, drop (length t) (t ++ rest))) (front t rest)
-    ∙ ap (λ (xs : List ℕ). Ok (Some t, xs)) (rest_is t rest)
+    ∙ ap (λ (xs : List ℕ). Ok (Some xs, drop (length t) (t ++ rest))) (take-append_seam t rest)
+    ∙ ap (λ (xs : List ℕ). Ok (Some t, xs)) (drop-append_seam t rest)
 
 -- the bytes of a line are read as that line
 pub line_read : (x : Line) (bs rest : List ℕ) → LineBytes x bs → line_of (bs ++ rest) ≡ Ok (x, rest)
@@ -113,11 +107,6 @@ line_read x bs rest l =
     ∙ ap (λ (z : Bool). cond z (Err UnknownBits) (tail_line m ((s ++ (q ++ (e ++ t))) ++ rest))) b.0
     ∙ ap (tail_line m) apart
     ∙ whole m (s ++ (q ++ (e ++ (t ++ rest)))) x.speaker (q ++ (e ++ (t ++ rest))) is_s x.question (e ++ (t ++ rest)) is_q x.elapsed (t ++ rest) is_e x.text rest is_t
-
--- what was read, taken apart
-cond_in : {A : Type 0} (b : Bool) (x y : A) → ◌≡◌ {A = Result A LineFault} (Ok y) (cond b (Ok x) (Err CutShort)) → (b ≡ true) × (x ≡ y)
-cond_in true x y e = let z : x ≡ y = cc in (refl, z)
-cond_in false x y e = let z : ◌≡◌ {A = ℕ} 0 1 = cc in absurd (omega arith)
 
 -- a field, and the bytes that it was read from
 FieldFrom : ℕ → Bool → List ℕ → Option ℕ × List ℕ → Type 0

@@ -11,9 +11,6 @@ use Rattle.packed.proofs.Steps.{tail_line}
 abbrev pub Tail : List ℕ → List ℕ → Type 0
 Tail r bs = (k : ℕ) × (r ≡ drop k bs)
 
-tail_same : (r bs : List ℕ) → r ≡ bs → Tail r bs
-tail_same r bs e = (0, e)
-
 tail_trans : (a b c : List ℕ) → Tail a b → Tail b c → Tail a c
 tail_trans a b c p q = (q.0 + p.0, p.1 ∙ ap (drop p.0) q.1 ∙ drop-drop p.0 q.0 c)
 
@@ -21,12 +18,13 @@ pub next_ok : {A B : Type 0} (r : Result A LineFault) (f : A → Result B LineFa
 next_ok (Ok x) f y e = (x, refl, e)
 next_ok (Err d) f y e = let z : ◌≡◌ {A = ℕ} 0 1 = cc in absurd (omega arith)
 
-cond_ok : {A : Type 0} (b : Bool) (x y : A) → ◌≡◌ {A = Result A LineFault} (Ok y) (cond b (Ok x) (Err CutShort)) → y ≡ x
-cond_ok true x y e = cc
-cond_ok false x y e = let z : ◌≡◌ {A = ℕ} 0 1 = cc in absurd (omega arith)
+-- what was read, taken apart
+pub cond_in : {A : Type 0} (b : Bool) (x y : A) → ◌≡◌ {A = Result A LineFault} (Ok y) (cond b (Ok x) (Err CutShort)) → (b ≡ true) × (x ≡ y)
+cond_in true x y e = let z : x ≡ y = cc in (refl, z)
+cond_in false x y e = let z : ◌≡◌ {A = ℕ} 0 1 = cc in absurd (omega arith)
 
 number_tail : (n : ℕ) (bs : List ℕ) (x : ℕ × List ℕ) → Ok x ≡ number n bs → Tail x.1 bs
-number_tail n bs x e = (n, ap (λ (z : ℕ × List ℕ). z.1) (cond_ok (leb n (length bs)) (little (take n bs), drop n bs) x e))
+number_tail n bs x e = (n, ap (λ (z : ℕ × List ℕ). z.1) (sym (cond_in (leb n (length bs)) (little (take n bs), drop n bs) x e).1))
 
 pub field_tail : (s : Bool) (n : ℕ) (bs : List ℕ) (x : Option ℕ × List ℕ) → Ok x ≡ field s n bs → Tail x.1 bs
 field_tail false n bs x e = let q : x ≡ (None, bs) = cc in (0, ap (λ (z : Option ℕ × List ℕ). z.1) q)
@@ -39,7 +37,7 @@ pub text_tail : (s : Bool) (bs : List ℕ) (x : Option (List ℕ) × List ℕ) �
 text_tail false bs x e = let q : x ≡ (None, bs) = cc in (0, ap (λ (z : Option (List ℕ) × List ℕ). z.1) q)
 text_tail true bs x e =
     let p = next_ok (number 1 bs) (λ y. cond (leb y.0 (length y.1)) (Ok (Some (take y.0 y.1), drop y.0 y.1)) (Err CutShort)) x e in
-    let q = cond_ok (leb p.0.0 (length p.0.1)) (Some (take p.0.0 p.0.1), drop p.0.0 p.0.1) x p.2 in
+    let q = sym (cond_in (leb p.0.0 (length p.0.1)) (Some (take p.0.0 p.0.1), drop p.0.0 p.0.1) x p.2).1 in
     tail_trans _ _ _ (p.0.0, ap (λ (z : Option (List ℕ) × List ℕ). z.1) q) (number_tail 1 bs p.0 p.1)
 
 body_tail : (m : ℕ) (bs : List ℕ) (x : Line × List ℕ) → Ok x ≡ tail_line m bs → Tail x.1 bs

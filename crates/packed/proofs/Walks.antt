@@ -1,5 +1,5 @@
 -- One step of a walk.
-use Rattle.std.proofs.Common.{◌≡◌, ℕ, ◌+◌, ◌-◌, ◌<◌, ◌≤◌, Bool, true, false, cond, not, ◌&&◌, eqb, List, [], ◌∷◌, length, get_or, drop, Ok, Err, Result, refl, ◌∙◌, arith, le-ltb, lt-ltb, ne_eqb}
+use Rattle.std.proofs.Common.{◌≡◌, ℕ, ◌+◌, ◌-◌, ◌<◌, ◌≤◌, Bool, false, cond, not, ◌&&◌, eqb, List, [], ◌∷◌, length, get_or, drop, Ok, Err, Result, refl, ◌∙◌, arith, le-ltb, lt-ltb}
 use Rattle.std.proofs.lemmas.List.{drop_more, drop_all}
 use Rattle.packed.specs.declared.line.LineFault.{LineFault}
 use Rattle.packed.specs.Fields.{Line, line_of}
@@ -43,8 +43,5 @@ module _ (s : Bool) (t : List ℕ) (n at : ℕ) (r : List ℕ) (some : 0 < lengt
     faulty f e = one (Err f) e
 
     module _ (x : Line × List ℕ) (whole : Ok x ≡ line_of r) where
-      pub wrong : s ≡ true → (get_or t n 0 ≡ at → ⊥) → walk_of s (drop n t) n at r ≡ Err (refuse reasons.WrongPlaceEntry n)
-      wrong st ne = one (Ok x) whole ∙ rw (st, ne_eqb (get_or t n 0) at ne)
-
-      pub on : (s && not (eqb (get_or t n 0) at)) ≡ false → walk_of s (drop n t) n at r ≡ walk_of s (drop (n + 1) t) (n + 1) (at + (length r - length x.1)) x.1
-      on ok = one (Ok x) whole ∙ rw ok
+      pub on : false ≡ (s && not (eqb (get_or t n 0) at)) → walk_of s (drop n t) n at r ≡ walk_of s (drop (n + 1) t) (n + 1) (at + (length r - length x.1)) x.1
+      on same = one (Ok x) whole ∙ rw (← same)

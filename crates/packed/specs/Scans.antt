@@ -1,5 +1,5 @@
 -- What a scan of packed bytes answers, and what the place table holds after it.
-use Rattle.std.specs.Prelude.{ℕ, ◌+◌, ◌-◌, Bool, false, cond, not, ◌&&◌, List, [], ◌∷◌, length, Ok, Err, Result, ◌==◌, nat_le, nat_lt}
+use Rattle.std.specs.Prelude.{◌≡◌, ℕ, ◌+◌, ◌-◌, ◌^◌, ◌<◌, Bool, false, cond, not, ◌&&◌, List, [], ◌∷◌, length, Ok, Err, Result, ◌==◌, nat_le, nat_lt}
 use Rattle.frame.specs.declared.refusal.Refusal.{Refusal}
 use Rattle.frame.specs.declared.refusal.Reason.{Reason}
 use Rattle.frame.specs.declared.refusal.Reason.TheVariants as reasons
@@ -35,6 +35,10 @@ walk_of strict (e ∷ es) n at (b ∷ bs) =
     (λ x. cond (strict && not (e == at)) (Err (refuse reasons.WrongPlaceEntry n)) (walk_of strict es (n + 1) (at + (length (b ∷ bs) - length x.1)) x.1))
     (λ f. Err (refuse (reason_of f) at)))
     (Err (refuse reasons.NoPlaceEntry at))
+
+-- a test of an entry at a place, which answers no exactly where strict and the entry is not the place
+abbrev pub TestsEntry : Bool → (ℕ → ℕ → Bool → Type 0) → Type 0
+TestsEntry strict answers = (e p : ℕ) (b : Bool) → e < 2 ^ 32 → p < 2 ^ 64 → answers e p b → not b ≡ (strict && not (e == p))
 
 -- last of all, the count of lines from a first line number on
 abbrev pub limited : ℕ → Result ℕ Refusal → Result ℕ Refusal

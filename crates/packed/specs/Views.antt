@@ -1,5 +1,5 @@
 -- What a view over packed bytes means.
-use Rattle.std.specs.Prelude.{◌≡◌, ℕ, zero, suc, ◌-◌, min, true, cond, ◌&&◌, List, [], ◌∷◌, map, length, drop, Some, None, Ok, Err, Option, Result, nat_lt, slice_index}
+use Rattle.std.specs.Prelude.{◌≡◌, ℕ, zero, suc, ◌-◌, true, List, [], ◌∷◌, map, length, drop, Some, None, Ok, Err, Option, Result, slice_index_or}
 use Rattle.frame.specs.declared.refusal.Refusal.{Refusal}
 use Rattle.packed.specs.declared.view.PackedView.{PackedView}
 use Rattle.packed.specs.Fields.{Line, line_of}
@@ -19,23 +19,13 @@ behind (suc n) bs = by_line (line_of bs) (λ x. behind n x.1) (λ _. [])
 abbrev pub at_place : List ℕ → ℕ → Option Line
 at_place bs p = by_line (line_of (drop p bs)) (λ x. Some x.0) (λ _. None)
 
--- n lines, each where its entry of the table says; nothing where no entry or no line is there
-abbrev pub by_places : ℕ → List ℕ → List ℕ → List (Option Line)
-by_places zero es bs = []
-by_places (suc n) [] bs = None ∷ by_places n [] bs
-by_places (suc n) (e ∷ es) bs = at_place bs e ∷ by_places n es bs
-
 abbrev pub keyed : {K : Type 0} → (Line → Option K) → Option Line → Option K
 keyed reads (Some x) = reads x
 keyed reads None = None
 
--- how many lines fit below the limit of line numbers: all of them, in a view that `new` has made
-abbrev pub held_count : {K : Type 0} → PackedView K → ℕ
-held_count v = min v.count (4294967295 - v.first)
-
--- the lines that a view holds
+-- the lines that a view holds: each where its entry of the table says
 abbrev pub held : {K : Type 0} → (Line → Option K) → PackedView K → List (Option K)
-held reads v = map (keyed reads) (by_places (held_count v) v.places.now v.bytes.now)
+held reads v = map (λ p. keyed reads (at_place v.bytes.now p)) v.places.now
 
 -- a view by its first line number and its lines, or a refusal
 abbrev pub meaning : {K : Type 0} → (Line → Option K) → Result (PackedView K) Refusal → Result (ℕ × List (Option K)) Refusal
@@ -52,7 +42,7 @@ view_of reads first es bs = counted reads first bs (limited first (walk_of true 
 
 -- a view whose table agrees with its bytes
 abbrev pub Agrees : {K : Type 0} → PackedView K → Type 0
-Agrees v = walk_of true v.places.now 0 0 v.bytes.now ≡ Ok v.count
+Agrees v = walk_of true v.places.now 0 0 v.bytes.now ≡ Ok (length v.places.now)
 
 -- a view that `new` has made holds these bytes, and its table agrees with them
 pub record Whole {K : Type 0} (v : PackedView K) (bs : List ℕ) : Type 0 where
@@ -61,12 +51,12 @@ pub record Whole {K : Type 0} (v : PackedView K) (bs : List ℕ) : Type 0 where
 
 -- where the line behind k others begins, as the table has it; the end of the bytes where there is none
 abbrev pub place_of : {K : Type 0} → PackedView K → ℕ → ℕ
-place_of v k = cond (nat_lt k v.count && nat_lt k (length v.places.now)) (min (slice_index v.places.now k) (length v.bytes.now)) (length v.bytes.now)
+place_of v k = slice_index_or v.places.now k (length v.bytes.now)
 
 -- the bytes from line n on, as the table has them
 abbrev pub from_line : {K : Type 0} → PackedView K → ℕ → List ℕ
 from_line v n = drop (place_of v (n - v.first)) v.bytes.now
 
--- where the table agrees with the bytes, these are the bytes behind the lines before line n
+-- the bytes behind the lines before line n
 abbrev pub kept_from : {K : Type 0} → PackedView K → ℕ → List ℕ → Type 0
-kept_from v n rest = Agrees v → rest ≡ behind (n - v.first) v.bytes.now
+kept_from v n rest = rest ≡ behind (n - v.first) v.bytes.now

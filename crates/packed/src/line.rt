@@ -1,17 +1,16 @@
-ghost use Rattle.std.specs.Prelude.{◌≡◌};
-ghost use Rattle.std.specs.Option.{option_map};
-ghost use Rattle.packed.specs.Fields.{seen, field, text_of, line_of};
+ghost use Rattle.std.specs.Prelude.{◌≡◌, true, false};
+ghost use Rattle.packed.specs.Fields.{seen, next, number, text_of, line_of};
 ghost use Rattle.packed.specs.Decoded.{decoded};
 
 // What is wrong with the bytes of a line.
-#[derive(Clone, Copy)]
+#[derive(Clone, Copy, Debug, PartialEq, Eq)]
 pub enum LineFault {
     UnknownBits,
     CutShort,
 }
 
 // One line. A field that is absent is none, also where a present one would be 0 or empty.
-#[derive(Clone, Copy)]
+#[derive(Clone, Copy, Debug, PartialEq, Eq)]
 pub struct PackedLine<'a> {
     pub speaker: Option<u8>,
     pub question: Option<u32>,
@@ -19,51 +18,41 @@ pub struct PackedLine<'a> {
     pub text: Option<&'a [u8]>,
 }
 
-fn speaker(stands: bool, bytes: &[u8]) -> Result<(Option<u8>, &[u8]), LineFault>
-    ensures { seen (λ s. s) result ≡ field stands 1 bytes.now }
+// A field's reader names its bytes one by one, and all that stands behind them: so fields are read in this
+// project. It keeps one reader for each width.
+fn speaker(bytes: &[u8]) -> Result<(u8, &[u8]), LineFault>
+    ensures { seen (λ s. s) result ≡ number 1 bytes.now }
 {
-    if !stands {
-        return Ok((None, bytes));
-    }
     let [b, rest @ ..] = bytes else {
         return Err(LineFault::CutShort);
     };
-    Ok((Some(*b), rest))
+    Ok((*b, rest))
 }
 
-fn question(stands: bool, bytes: &[u8]) -> Result<(Option<u32>, &[u8]), LineFault>
-    ensures { seen (λ q. q) result ≡ field stands 4 bytes.now }
+fn question(bytes: &[u8]) -> Result<(u32, &[u8]), LineFault>
+    ensures { seen (λ q. q) result ≡ number 4 bytes.now }
 {
-    if !stands {
-        return Ok((None, bytes));
-    }
     let [b0, b1, b2, b3, rest @ ..] = bytes else {
         return Err(LineFault::CutShort);
     };
-    Ok((Some(u32::from_le_bytes([*b0, *b1, *b2, *b3])), rest))
+    Ok((u32::from_le_bytes([*b0, *b1, *b2, *b3]), rest))
 }
 
-fn elapsed(stands: bool, bytes: &[u8]) -> Result<(Option<u64>, &[u8]), LineFault>
-    ensures { seen (λ e. e) result ≡ field stands 8 bytes.now }
+fn elapsed(bytes: &[u8]) -> Result<(u64, &[u8]), LineFault>
+    ensures { seen (λ e. e) result ≡ number 8 bytes.now }
 {
-    if !stands {
-        return Ok((None, bytes));
-    }
     let [b0, b1, b2, b3, b4, b5, b6, b7, rest @ ..] = bytes else {
         return Err(LineFault::CutShort);
     };
     Ok((
-        Some(u64::from_le_bytes([*b0, *b1, *b2, *b3, *b4, *b5, *b6, *b7])),
+        u64::from_le_bytes([*b0, *b1, *b2, *b3, *b4, *b5, *b6, *b7]),
         rest,
     ))
 }
 
-fn text(stands: bool, bytes: &[u8]) -> Result<(Option<&[u8]>, &[u8]), LineFault>
-    ensures { seen (option_map (λ t. t.now)) result ≡ text_of stands bytes.now }
+fn text(bytes: &[u8]) -> Result<(&[u8], &[u8]), LineFault>
+    ensures { seen (λ t. Some t.now) result ≡ text_of true bytes.now }
 {
-    if !stands {
-        return Ok((None, bytes));
-    }
     let [len, rest @ ..] = bytes else {
         return Err(LineFault::CutShort);
     };
@@ -71,8 +60,24 @@ fn text(stands: bool, bytes: &[u8]) -> Result<(Option<&[u8]>, &[u8]), LineFault>
     if n > rest.len() {
         return Err(LineFault::CutShort);
     }
-    let (text, rest) = rest.split_at(n);
-    Ok((Some(text), rest))
+    Ok(rest.split_at(n))
+}
+
+// What is read of the bytes, if its bit is set, and the bytes behind it.
+fn if_set<'a, T, F: FnOnce(&'a [u8]) -> Result<(T, &'a [u8]), LineFault>>(
+    is_set: bool,
+    bytes: &'a [u8],
+    read: F,
+) -> Result<(Option<T>, &'a [u8]), LineFault>
+    requires { F.IsAlwaysCallable read }
+    ensures unset { is_set ≡ false → result ≡ Ok (None, bytes.entry) }
+    ensures set { is_set ≡ true → (r : _) × F.post read bytes.entry r × (result ≡ next r (λ x. Ok (Some x.0, x.1))) }
+{
+    if !is_set {
+        return Ok((None, bytes));
+    }
+    let (value, rest) = read(bytes)?;
+    Ok((Some(value), rest))
 }
 
 impl<'a> PackedLine<'a> {
@@ -87,10 +92,10 @@ impl<'a> PackedLine<'a> {
         if map & 0xf0 != 0 {
             return Err(LineFault::UnknownBits);
         }
-        let (speaker, rest) = speaker(map & 1 != 0, rest)?;
-        let (question, rest) = question(map & 2 != 0, rest)?;
-        let (elapsed, rest) = elapsed(map & 4 != 0, rest)?;
-        let (text, rest) = text(map & 8 != 0, rest)?;
+        let (speaker, rest) = if_set(map & 1 != 0, rest, speaker)?;
+        let (question, rest) = if_set(map & 2 != 0, rest, question)?;
+        let (elapsed, rest) = if_set(map & 4 != 0, rest, elapsed)?;
+        let (text, rest) = if_set(map & 8 != 0, rest, text)?;
         Ok((
             PackedLine {
                 speaker,

@@ -21,10 +21,7 @@ impl PackedKey for Elapsed {
     ghost reads = { λ x. by_elapsed x };
 
     fn key_of(line: PackedLine<'_>) -> Option<Elapsed> {
-        match line.elapsed {
-            Some(t) => Some(Elapsed(t)),
-            None => None,
-        }
+        line.elapsed.map(Elapsed)
     }
 }
 
@@ -32,9 +29,8 @@ impl PackedKey for Turn {
     ghost reads = { λ x. by_turn x };
 
     fn key_of(line: PackedLine<'_>) -> Option<Turn> {
-        match (line.speaker, line.question) {
-            (Some(speaker), Some(question)) => Some(Turn { speaker, question }),
-            _ => None,
-        }
+        let speaker = line.speaker?;
+        let question = line.question?;
+        Some(Turn { speaker, question })
     }
 }

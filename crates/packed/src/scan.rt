@@ -1,52 +1,47 @@
-ghost use Rattle.std.specs.Prelude.{◌≡◌, true, false, is_ok, if◌then◌else◌};
-ghost use Rattle.packed.specs.Scans.{walk_of, scan_of, filled, reason_of, refuse};
+ghost use Rattle.std.specs.Prelude.{◌≡◌, Bool, true, false, is_ok, if◌then◌else◌};
+ghost use Rattle.packed.specs.Scans.{walk_of, scan_of, filled, reason_of, TestsEntry};
 ghost use Rattle.packed.specs.Spells.{Scanned};
 
 use crate::line::{LineFault, PackedLine};
 use frame::refusal::{Layer, Reason, Refusal};
 
-pub(crate) fn refused(reason: Reason, place: usize) -> Refusal
-    ensures { result ≡ refuse reason place }
-{
-    Refusal {
-        reason,
-        place: place as u64,
-        layer: Layer::Transcript,
-    }
-}
+impl From<LineFault> for Reason {
+    ghost from_gives = { λ fault reason. reason ≡ reason_of fault };
 
-impl LineFault {
-    fn reason(self) -> Reason
-        ensures { result ≡ reason_of self }
-    {
-        match self {
+    fn from(fault: LineFault) -> Reason {
+        match fault {
             LineFault::UnknownBits => Reason::UnknownBits,
             LineFault::CutShort => Reason::LineCutShort,
         }
     }
 }
 
-// Checks every line, and counts them. Where `strict`, each entry must be its line's place.
-pub(crate) fn walk(strict: bool, table: &[u32], bytes: &[u8]) -> Result<usize, Refusal>
-    ensures { result ≡ walk_of strict table.now 0 0 bytes.now }
+// Checks every line, and counts them: each has an entry that is right for the line's place.
+pub(crate) fn walk<F: Fn(u32, usize) -> bool>(
+    table: &[u32],
+    bytes: &[u8],
+    is_right: F,
+) -> Result<usize, Refusal>
+    requires { F.IsAlwaysCallable is_right }
+    ensures { (strict : Bool) → TestsEntry strict (F.post is_right) → result ≡ walk_of strict table.now 0 0 bytes.now }
 {
+    // The bytes say how many lines there are, and not the table, which may have more entries or fewer.
     let mut rest = bytes;
     let mut count = 0;
     while !rest.is_empty() {
         let place = bytes.len() - rest.len();
-        if count >= table.len() || place >= 4294967296 {
-            return Err(refused(Reason::NoPlaceEntry, place));
+        if count >= table.len() || place > u32::MAX as usize {
+            return Err(Layer::Transcript.refuse(Reason::NoPlaceEntry, place as u64));
         }
-        match PackedLine::read(rest) {
-            Err(fault) => return Err(refused(fault.reason(), place)),
-            Ok((_, next)) => {
-                if strict && table[count] as usize != place {
-                    return Err(refused(Reason::WrongPlaceEntry, count));
-                }
-                rest = next;
-                count += 1;
-            }
+        let (_, next) = match PackedLine::read(rest) {
+            Ok(read) => read,
+            Err(fault) => return Err(Layer::Transcript.refuse(fault.into(), place as u64)),
+        };
+        if !is_right(table[count], place) {
+            return Err(Layer::Transcript.refuse(Reason::WrongPlaceEntry, count as u64));
         }
+        rest = next;
+        count += 1;
     }
     Ok(count)
 }
@@ -58,27 +53,12 @@ fn fill(table: &mut [u32], bytes: &[u8])
 {
     let mut rest = bytes;
     for slot in table.iter_mut() {
-        match PackedLine::read(rest) {
-            Err(_) => return,
-            Ok((_, next)) => {
-                *slot = (bytes.len() - rest.len()) as u32;
-                rest = next;
-            }
-        }
+        let Ok((_, next)) = PackedLine::read(rest) else {
+            return;
+        };
+        *slot = (bytes.len() - rest.len()) as u32;
+        rest = next;
     }
-}
-
-// Writes only once every line, and their count, are known to be good.
-fn scan_places(table: &mut [u32], bytes: &[u8]) -> Result<u32, Refusal>
-    ensures answer { result ≡ scan_of table.old bytes.now }
-    ensures table { table.new ≡ (if is_ok result then filled table.old 0 bytes.now else table.old) }
-{
-    let count = walk(false, table, bytes)?;
-    if count > 4294967295 {
-        return Err(refused(Reason::TooManyLines, 0));
-    }
-    fill(table, bytes);
-    Ok(count as u32)
 }
 
 // Writes the place of each line into the table, and answers how many there are.
@@ -88,5 +68,10 @@ pub fn scan(table: &mut [u32], bytes: &[u8]) -> Result<u32, Refusal>
     ensures table { table.new ≡ (if is_ok result then filled table.old 0 bytes.now else table.old) }
     ensures lines { Scanned bytes.now table.old table.new result }
 {
-    scan_places(table, bytes)
+    let count = walk(table, bytes, |_, _| true)?;
+    if count > u32::MAX as usize {
+        return Err(Layer::Transcript.refuse(Reason::TooManyLines, 0));
+    }
+    fill(table, bytes);
+    Ok(count as u32)
 }

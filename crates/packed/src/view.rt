@@ -1,24 +1,42 @@
-ghost use Rattle.std.specs.Prelude.{◌≡◌, ◌≤◌, length, IfOk};
-ghost use Rattle.packed.specs.Views.{held, meaning, view_of, Whole, place_of, from_line, kept_from};
+ghost use Rattle.std.specs.Prelude.{◌≡◌, ◌+◌, ◌≤◌, true, length, IfOk, IsOkAnd, ⊤};
+ghost use Rattle.std.proofs.Props.{props};
+ghost use Rattle.packed.specs.Scans.{walk_of};
 
 use crate::line::PackedLine;
 use crate::reads::PackedKey;
-use crate::scan::{refused, walk};
-use frame::refusal::{Reason, Refusal};
+use crate::scan::walk;
+use frame::refusal::{Layer, Reason, Refusal};
+use std::alloc::AllocError;
 use std::marker::PhantomData;
 use transcript::view::Transcript;
 
 // A view over packed bytes, by the places of their lines.
-#[derive(Clone, Copy)]
 pub struct PackedView<'a, 'p, K> {
     first: u32,
-    count: u32,
     bytes: &'a [u8],
     places: &'p [u32],
     kind: PhantomData<K>,
+    // Each line has a number, and each entry is its line's place.
+    ghost fits: { first + length places.now ≤ 4294967295 },
+    ghost agrees: { IsOkAnd (walk_of true places.now 0 0 bytes.now) (λ n. n ≡ length places.now) } by { Prim.hlevel props },
+}
+
+// By hand: no derive copies a struct with a ghost field over a parameter.
+impl<K> Copy for PackedView<'_, '_, K> {}
+
+impl<K> Clone for PackedView<'_, '_, K> {
+    ghost is_clone = { λ view copy. copy ≡ view };
+
+    ghost is_infallible = { λ _. ⊤ };
+
+    fn clone(&self) -> Result<Self, AllocError> {
+        Ok(*self)
+    }
 }
 
 impl<'a, 'p, K: PackedKey> PackedView<'a, 'p, K> {
+    ghost use Rattle.packed.specs.Views.{meaning, view_of, Whole, place_of, from_line, kept_from};
+
     // The lines of the bytes, from `first` on. Entries past the last line's are not read.
     pub fn new(
         first: u32,
@@ -28,15 +46,14 @@ impl<'a, 'p, K: PackedKey> PackedView<'a, 'p, K> {
         ensures view { meaning K.PackedKey.reads result ≡ view_of K.PackedKey.reads first places.now bytes.now }
         ensures whole { IfOk result (λ v. Whole v bytes.now) }
     {
-        let count = walk(true, places, bytes)?;
-        if count > (4294967295 - first) as usize {
-            return Err(refused(Reason::TooManyLines, 0));
+        let count = walk(places, bytes, |entry, place| entry as usize == place)?;
+        if count > (u32::MAX - first) as usize {
+            return Err(Layer::Transcript.refuse(Reason::TooManyLines, 0));
         }
         Ok(PackedView {
             first,
-            count: count as u32,
             bytes,
-            places,
+            places: &places[..count],
             kind: PhantomData,
         })
     }
@@ -46,11 +63,9 @@ impl<'a, 'p, K: PackedKey> PackedView<'a, 'p, K> {
         ensures value { result ≡ place_of self.now k }
         ensures bound { result ≤ length self.now.bytes.now }
     {
-        if k >= self.count || k as usize >= self.places.len() {
-            return self.bytes.len();
-        }
-        let place = self.places[k as usize] as usize;
-        place.min(self.bytes.len())
+        self.places
+            .get(k as usize)
+            .map_or(self.bytes.len(), |place| *place as usize)
     }
 
     // The bytes of the lines from `n` on; none where no line is left.
@@ -64,6 +79,8 @@ impl<'a, 'p, K: PackedKey> PackedView<'a, 'p, K> {
 }
 
 impl<'a, 'p, K: PackedKey> Transcript for PackedView<'a, 'p, K> {
+    ghost use Rattle.packed.specs.Views.{held};
+
     type Key = K;
 
     ghost starts = { λ v. v.first };
@@ -75,18 +92,13 @@ impl<'a, 'p, K: PackedKey> Transcript for PackedView<'a, 'p, K> {
     }
 
     fn total(&self) -> u32 {
-        self.first + self.count.min(4294967295 - self.first)
+        self.first + self.places.len() as u32
     }
 
     fn line(&self, n: u32) -> Option<K> {
-        // No line has the number 4294967295: a total is at most that.
-        if n < self.first || n == 4294967295 {
-            return None;
-        }
-        let place = self.place_of(n - self.first);
-        match PackedLine::read(&self.bytes[place..]) {
-            Ok((line, _)) => K::key_of(line),
-            Err(_) => None,
-        }
+        let k = n.checked_sub(self.first)?;
+        let place = *self.places.get(k as usize)?;
+        let (line, _) = PackedLine::read(&self.bytes[place as usize..]).ok()?;
+        K::key_of(line)
     }
 }

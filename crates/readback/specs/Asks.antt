@@ -16,17 +16,27 @@ abbrev pub meant_ask : Ask → Asked
 meant_ask (Open args) = begin args.now
 meant_ask (Of c args) = asked c args.now
 
+abbrev pub call_name : Call → List ℕ
+call_name Line = codes "line"
+call_name Feed = codes "feed"
+call_name Window = codes "window"
+call_name AskCall = codes "ask"
+call_name File = codes "file"
+call_name Table = codes "table"
+call_name Roll = codes "roll"
+call_name Places = codes "places"
+
 -- the commands of a sitting
 abbrev pub call_of : List ℕ → Option Call
 call_of word =
-    cond (bytes_eq word (codes "line")) (Some Line) (
-    cond (bytes_eq word (codes "feed")) (Some Feed) (
-    cond (bytes_eq word (codes "window")) (Some Window) (
-    cond (bytes_eq word (codes "ask")) (Some AskCall) (
-    cond (bytes_eq word (codes "file")) (Some File) (
-    cond (bytes_eq word (codes "table")) (Some Table) (
-    cond (bytes_eq word (codes "roll")) (Some Roll) (
-    cond (bytes_eq word (codes "places")) (Some Places) (
+    cond (bytes_eq word (call_name Line)) (Some Line) (
+    cond (bytes_eq word (call_name Feed)) (Some Feed) (
+    cond (bytes_eq word (call_name Window)) (Some Window) (
+    cond (bytes_eq word (call_name AskCall)) (Some AskCall) (
+    cond (bytes_eq word (call_name File)) (Some File) (
+    cond (bytes_eq word (call_name Table)) (Some Table) (
+    cond (bytes_eq word (call_name Roll)) (Some Roll) (
+    cond (bytes_eq word (call_name Places)) (Some Places) (
     None))))))))
 
 -- the command and the bytes behind it

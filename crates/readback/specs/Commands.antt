@@ -1,9 +1,9 @@
 -- What a line of the script asks for.
-use Rattle.std.specs.Prelude.{ℕ, ◌+◌, Bool, true, cond, not, List, [], ◌∷◌, length, take, drop, codes, ◌==◌}
+use Rattle.std.specs.Prelude.{ℕ, ◌+◌, Bool, true, cond, not, List, [], ◌∷◌, length, take, drop, codes, ◌==◌, Some, None, Ok, Err, Option, Result}
 use Rattle.std.specs.List.{prefix_len}
 use Rattle.std.specs.Str.{bytes_eq}
 use Rattle.readback.specs.declared.command.Command.{Command}
-use Rattle.readback.specs.declared.command.Command.TheVariants.{Nothing, Clause, Reverse, Scan, View, Explain, Wrong}
+use Rattle.readback.specs.declared.command.Command.TheVariants.{Clause, Reverse, Scan, View, Explain}
 use Rattle.readback.specs.declared.command.Mistake.{Mistake}
 use Rattle.readback.specs.declared.command.Mistake.TheVariants.{UnknownCommand, TooManyWords}
 
@@ -34,14 +34,17 @@ pub data Meant : Type 0 where
   explain : List ℕ → Meant
   wrong : Mistake → Meant
 
-abbrev pub meant : Command → Meant
-meant Nothing = nothing
-meant (Clause text) = clause text.now
-meant Reverse = reverse
-meant (Scan args) = scan args.now
-meant (View args) = view args.now
-meant (Explain args) = explain args.now
-meant (Wrong m) = wrong m
+abbrev pub meant_by : Command → Meant
+meant_by (Clause text) = clause text.now
+meant_by Reverse = reverse
+meant_by (Scan args) = scan args.now
+meant_by (View args) = view args.now
+meant_by (Explain args) = explain args.now
+
+abbrev pub meant : Result (Option Command) Mistake → Meant
+meant (Ok None) = nothing
+meant (Ok (Some c)) = meant_by c
+meant (Err m) = wrong m
 
 -- whether a line is empty or a comment
 abbrev pub passed_over : List ℕ → Bool

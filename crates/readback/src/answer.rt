@@ -1,12 +1,12 @@
 ghost use Rattle.std.specs.Prelude.{◌≡◌, [], map, IfOk, Some, string_bytes};
-ghost use Rattle.frame.specs.Faults.{answer as read_as};
+ghost use Rattle.frame.specs.Faults.{answer as read_as, told_clause};
 ghost use Rattle.frame.specs.Frames.{framed};
 ghost use Rattle.frame.specs.Refusals.{refusal_of};
 ghost use Rattle.readback.specs.Lines.{yes_no, printed, frame_line, refusal_line, refused_line, clause_line, mistake_text, error_line};
 
-use crate::command::Mistake;
+use crate::command::{Mistake, Trouble};
 use crate::keys::ScriptKey;
-use frame::clause::Reading;
+use frame::clause::ClauseRefusal;
 use frame::frame::WindowFrame;
 use frame::refusal::Refusal;
 use std::alloc::{AllocError, Global};
@@ -48,27 +48,27 @@ pub fn frame_line(heap: Global, frame: &WindowFrame) -> Result<String, AllocErro
 pub fn refusal_line(heap: Global, refusal: Refusal) -> Result<String, AllocError>
     ensures { IfOk result (λ s. string_bytes s ≡ refusal_line (refusal_of refusal [])) }
 {
-    let number = refusal.reason.number();
-    let place = refusal.place;
-    let layer = refusal.layer.number();
-    format!(in heap; "refused {number} place {place} layer {layer}")
+    format!(in heap; "{refusal}")
 }
 
-fn refused_line(heap: Global, refusal: Refusal, word: &[u8]) -> Result<String, AllocError>
-    ensures { IfOk result (λ s. string_bytes s ≡ refused_line (refusal_of refusal word.now)) }
+fn refused_line(heap: Global, refused: &ClauseRefusal) -> Result<String, AllocError>
+    ensures { IfOk result (λ s. string_bytes s ≡ refused_line (told_clause refused.now)) }
 {
-    let refused = refusal_line(heap, refusal)?;
-    let word = shown_word(heap, word)?;
-    format!(in heap; "{refused} word \"{word}\"")
+    let refusal = refusal_line(heap, refused.refusal)?;
+    let word = shown_word(heap, refused.word)?;
+    format!(in heap; "{refusal} word \"{word}\"")
 }
 
 // The answer to a clause.
-pub fn clause_line(heap: Global, reading: &Reading) -> Result<String, AllocError>
-    ensures { IfOk result (λ s. string_bytes s ≡ clause_line (read_as reading.now.frame reading.now.word.now)) }
+pub fn clause_line(
+    heap: Global,
+    reading: &Result<WindowFrame, ClauseRefusal>,
+) -> Result<String, AllocError>
+    ensures { IfOk result (λ s. string_bytes s ≡ clause_line (read_as reading.now)) }
 {
-    match reading.frame {
-        Ok(frame) => frame_line(heap, &frame),
-        Err(refusal) => refused_line(heap, refusal, reading.word),
+    match reading {
+        Ok(frame) => frame_line(heap, frame),
+        Err(refused) => refused_line(heap, refused),
     }
 }
 
@@ -76,24 +76,35 @@ impl fmt::Display for Mistake {
     ghost output = { λ m. Some (mistake_text m) };
 
     fn fmt<W: fmt::Write>(&self, f: &mut fmt::Formatter<W>) -> fmt::Result {
+        f.write_str(match self {
+            Mistake::UnknownCommand => "unknown command",
+            Mistake::TooManyWords => "too many words",
+            Mistake::MissingWord => "a word is missing",
+            Mistake::BadNumber => "not a number that fits",
+            Mistake::BadBytes => "bytes have two digits each, or a point for none",
+            Mistake::BadKind => "no such kind here",
+            Mistake::BadOption => "the order is asc or desc, unmarked lines stand first or last",
+            Mistake::BadKey => "not a key of this kind",
+            Mistake::NoSuchLine => "no such line",
+            Mistake::OutOfOrder => "the lines are out of order",
+            Mistake::TooLarge => "a table has at most 16777216 entries",
+            Mistake::NoFrame => "no frame: read a clause first",
+            Mistake::NotHere => "not with these lines",
+            Mistake::BadHolder => "lines are held by a roll or packed",
+            Mistake::NoMemory => "out of memory",
+        })
+    }
+}
+
+impl fmt::Display for Trouble {
+    fn fmt<W: fmt::Write>(&self, f: &mut fmt::Formatter<W>) -> fmt::Result {
         match self {
-            Mistake::UnknownCommand => f.write_str("unknown command"),
-            Mistake::TooManyWords => f.write_str("too many words"),
-            Mistake::MissingWord => f.write_str("a word is missing"),
-            Mistake::BadNumber => f.write_str("not a number that fits"),
-            Mistake::BadBytes => f.write_str("bytes have two digits each, or a point for none"),
-            Mistake::BadKind => f.write_str("no such kind here"),
-            Mistake::BadOption => f.write_str(
-                "the order is asc or desc, unmarked lines stand first or last",
-            ),
-            Mistake::BadKey => f.write_str("not a key of this kind"),
-            Mistake::NoSuchLine => f.write_str("no such line"),
-            Mistake::OutOfOrder => f.write_str("the lines are out of order"),
-            Mistake::TooLarge => f.write_str("a table has at most 16777216 entries"),
-            Mistake::NoFrame => f.write_str("no frame: read a clause first"),
-            Mistake::NotHere => f.write_str("not with these lines"),
-            Mistake::BadHolder => f.write_str("lines are held by a roll or packed"),
-            Mistake::NoMemory => f.write_str("out of memory"),
+            Trouble::Refused(refusal) => write!(f, "{refusal}"),
+            Trouble::Script(mistake) => write!(f, "error {mistake}"),
+            Trouble::Memory => {
+                let mistake = Mistake::NoMemory;
+                write!(f, "error {mistake}")
+            }
         }
     }
 }
@@ -106,27 +117,25 @@ pub fn error_line(heap: Global, mistake: Mistake) -> Result<String, AllocError>
 }
 
 // Every entry of a table, each behind a space.
-pub fn push_numbers(text: &mut String, heap: Global, numbers: &[u32]) -> Result<(), AllocError> {
+pub fn push_numbers(text: &mut String, numbers: &[u32]) -> Result<(), AllocError> {
     for n in numbers {
-        text.push_str(format!(in heap; " {n}")?.as_str())?;
+        write!(text, " {n}")?;
     }
     Ok(())
 }
 
+// A line's key behind a space.
+pub fn push_key<K: ScriptKey>(text: &mut String, key: Option<K>) -> Result<(), AllocError> {
+    match key {
+        Some(key) => write!(text, " {key}"),
+        None => text.push_str(" -"),
+    }
+}
+
 // Every line's key, each behind a space.
-pub fn push_keys<K: ScriptKey>(
-    text: &mut String,
-    heap: Global,
-    keys: &[Option<K>],
-) -> Result<(), AllocError> {
+pub fn push_keys<K: ScriptKey>(text: &mut String, keys: &[Option<K>]) -> Result<(), AllocError> {
     for key in keys {
-        match *key {
-            Some(key) => {
-                text.push_str(" ")?;
-                text.push_str(key.text(heap)?.as_str())?;
-            }
-            None => text.push_str(" -")?,
-        }
+        push_key(text, *key)?;
     }
     Ok(())
 }

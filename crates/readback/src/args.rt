@@ -1,4 +1,5 @@
-ghost use Rattle.std.specs.Prelude.{◌≡◌, ◌<◌, IfOk, OnOk, ◌==◌};
+ghost use Rattle.std.specs.Prelude.{◌<◌, IfOk, OnOk, OnSome};
+ghost use Rattle.std.specs.Iterator.{at_most};
 ghost use Rattle.readback.specs.Args.{left};
 
 use crate::command::{Mistake, Trouble, cut};
@@ -11,44 +12,44 @@ pub struct Args<'a> {
     rest: &'a [u8],
 }
 
+impl<'a> Iterator for Args<'a> {
+    type Item = &'a [u8];
+
+    ghost next_gives = { λ old word new. OnSome word (left new < left old) };
+
+    ghost remaining = { λ args. at_most (left args) };
+
+    fn next(&mut self) -> Option<&'a [u8]> {
+        if self.rest.is_empty() {
+            return None;
+        }
+        let (word, rest) = cut(self.rest);
+        self.rest = rest;
+        Some(word)
+    }
+}
+
 impl<'a> Args<'a> {
     pub fn new(rest: &'a [u8]) -> Args<'a> {
         Args { rest }
     }
 
-    pub fn is_empty(&self) -> bool
-        ensures { result ≡ (left self.now == 0) }
-    {
-        self.rest.is_empty()
-    }
-
     pub fn word(&mut self) -> Result<&'a [u8], Mistake>
         ensures { OnOk result (left self.new < left self.old) }
     {
-        if self.rest.is_empty() {
-            return Err(Mistake::MissingWord);
-        }
-        let (word, rest) = cut(self.rest);
-        self.rest = rest;
-        Ok(word)
+        self.next().ok_or(Mistake::MissingWord)
     }
 
     pub fn number(&mut self) -> Result<u64, Mistake>
         ensures { OnOk result (left self.new < left self.old) }
     {
-        match number_of(self.word()?) {
-            Some(n) => Ok(n),
-            None => Err(Mistake::BadNumber),
-        }
+        number_of(self.word()?).ok_or(Mistake::BadNumber)
     }
 
     pub fn number32(&mut self) -> Result<u32, Mistake>
         ensures { OnOk result (left self.new < left self.old) }
     {
-        match u32::try_from(self.number()?) {
-            Ok(n) => Ok(n),
-            Err(_) => Err(Mistake::BadNumber),
-        }
+        number32_of(self.word()?)
     }
 
     // How many entries a table is to have: few enough that it is no burden.
@@ -64,13 +65,12 @@ impl<'a> Args<'a> {
     pub fn bytes(&mut self, heap: Global) -> Result<Vec<u8>, Trouble> {
         let word = self.word()?;
         let mut bytes = Vec::new(heap);
-        if let [b'.'] = word {
+        if let b"." = word {
             return Ok(bytes);
         }
-        let mut rest = word;
-        while let [high, low, more @ ..] = rest {
+        let (pairs, rest) = word.as_chunks::<2>();
+        for [high, low] in pairs {
             bytes.push(digit(*high)? * 16 + digit(*low)?)?;
-            rest = more;
         }
         if !rest.is_empty() || word.is_empty() {
             return Err(Trouble::Script(Mistake::BadBytes));
@@ -90,15 +90,17 @@ impl<'a> Args<'a> {
 
 // The number of 64 bits that a word of decimal digits writes, if it does.
 pub fn number_of(word: &[u8]) -> Option<u64> {
-    match (Span {
+    (Span {
         text: word,
         place: 0,
     })
     .number()
-    {
-        Ok(n) => Some(n),
-        Err(_) => None,
-    }
+    .ok()
+}
+
+pub fn number32_of(word: &[u8]) -> Result<u32, Mistake> {
+    let n = number_of(word).ok_or(Mistake::BadNumber)?;
+    u32::try_from(n).map_err(|_| Mistake::BadNumber)
 }
 
 // The value of a digit to the base 16.

@@ -1,11 +1,11 @@
 ghost use Rattle.std.specs.Prelude.{◌≡◌};
 ghost use Rattle.std.specs.Option.{option_map};
-ghost use Rattle.readback.specs.Asks.{ask_of, call_of, meant_ask};
+ghost use Rattle.readback.specs.Asks.{ask_of, call_name, call_of, meant_ask};
 
 use crate::command::{cut, is};
 
 // What a line of the script asks of a sitting.
-#[derive(Clone, Copy)]
+#[derive(Clone, Copy, Debug, PartialEq, Eq)]
 pub enum Ask<'a> {
     // to open the next one
     Open(&'a [u8]),
@@ -14,7 +14,7 @@ pub enum Ask<'a> {
 }
 
 // What a sitting is asked for.
-#[derive(Clone, Copy)]
+#[derive(Clone, Copy, Debug, PartialEq, Eq)]
 pub enum Call {
     Line,
     Feed,
@@ -26,29 +26,39 @@ pub enum Call {
     Places,
 }
 
+const CALLS: [Call; 8] = [
+    Call::Line,
+    Call::Feed,
+    Call::Window,
+    Call::Ask,
+    Call::File,
+    Call::Table,
+    Call::Roll,
+    Call::Places,
+];
+
+impl Call {
+    fn name(self) -> &'static [u8]
+        ensures { result.now ≡ call_name self }
+    {
+        match self {
+            Call::Line => b"line",
+            Call::Feed => b"feed",
+            Call::Window => b"window",
+            Call::Ask => b"ask",
+            Call::File => b"file",
+            Call::Table => b"table",
+            Call::Roll => b"roll",
+            Call::Places => b"places",
+        }
+    }
+}
+
 // What a sitting is asked for by a word, if it is one of its commands.
 fn read_call(word: &[u8]) -> Option<Call>
     ensures { result ≡ call_of word.now }
 {
-    if is(word, "line") {
-        Some(Call::Line)
-    } else if is(word, "feed") {
-        Some(Call::Feed)
-    } else if is(word, "window") {
-        Some(Call::Window)
-    } else if is(word, "ask") {
-        Some(Call::Ask)
-    } else if is(word, "file") {
-        Some(Call::File)
-    } else if is(word, "table") {
-        Some(Call::Table)
-    } else if is(word, "roll") {
-        Some(Call::Roll)
-    } else if is(word, "places") {
-        Some(Call::Places)
-    } else {
-        None
-    }
+    CALLS.iter().copied().find(|call| word == call.name())
 }
 
 // What a line asks of a sitting; nothing where its command is another.
@@ -59,8 +69,5 @@ pub fn read_ask(line: &[u8]) -> Option<Ask<'_>>
     if is(word, "open") {
         return Some(Ask::Open(behind));
     }
-    match read_call(word) {
-        Some(call) => Some(Ask::Of(call, behind)),
-        None => None,
-    }
+    read_call(word).map(|call| Ask::Of(call, behind))
 }

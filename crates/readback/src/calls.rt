@@ -1,24 +1,27 @@
 use crate::args::Args;
 use crate::asks::Call;
-use crate::command::{Mistake, Trouble};
+use crate::command::Trouble;
 use crate::explains::read_keys;
 use crate::holders::Holder;
 use crate::keys::ScriptKey;
+use frame::refusal::Refusal;
 use std::alloc::Global;
 use tracker::tracker::Tracker;
 use transcript::stamps::StampView;
 
-// The answer to `window N`.
-fn window_line<K: ScriptKey, H: Holder<Key = K>>(
+// The answer to `window N` or `file N`: a name, and the two numbers that are told of N.
+fn pair_line<F: FnOnce(u32) -> Result<(u32, u32), Refusal>>(
     heap: Global,
-    tracker: &mut Tracker<'_, K>,
-    holder: &H,
+    name: &str,
     args: &mut Args,
-) -> Result<String, Trouble> {
-    let line = args.number32()?;
+    told: F,
+) -> Result<String, Trouble>
+    requires { F.IsAlwaysCallable told }
+{
+    let n = args.number32()?;
     args.end()?;
-    let (start, end) = holder.window(tracker, line)?;
-    Ok(format!(in heap; "window {start} {end}")?)
+    let (from, to) = told(n)?;
+    Ok(format!(in heap; "{name} {from} {to}")?)
 }
 
 // The answer to `ask N FIRST KEY KEY ..`.
@@ -35,33 +38,16 @@ fn ask_line<K: ScriptKey>(
     Ok(format!(in heap; "window {start} {end}")?)
 }
 
-// The answer to `file N`.
-fn file_line<K: ScriptKey, H: Holder<Key = K>>(
-    heap: Global,
-    tracker: &mut Tracker<'_, K>,
-    holder: &mut H,
-    args: &mut Args,
-) -> Result<String, Trouble> {
-    let n = args.number32()?;
-    args.end()?;
-    let (from, to) = holder.file(tracker, n)?;
-    Ok(format!(in heap; "slip {from} {to}")?)
-}
-
 // The answer to `table`.
 pub fn table_line<K: ScriptKey>(
     heap: Global,
     tracker: &Tracker<'_, K>,
     args: &[u8],
 ) -> Result<String, Trouble> {
-    if !args.is_empty() {
-        return Err(Trouble::Script(Mistake::TooManyWords));
-    }
+    Args::new(args).end()?;
     let mut text = String::from_str(heap, "table")?;
-    for k in 0..tracker.entries() {
-        if let Some(end) = tracker.entry(k) {
-            text.push_str(format!(in heap; " {end}")?.as_str())?;
-        }
+    for end in (0..tracker.entries()).filter_map(|k| tracker.entry(k)) {
+        write!(text, " {end}")?;
     }
     Ok(text)
 }
@@ -76,9 +62,14 @@ pub fn call_line<K: ScriptKey, H: Holder<Key = K>>(
 ) -> Result<String, Trouble> {
     let mut args = Args::new(args);
     match call {
-        Call::Window => window_line(heap, tracker, holder, &mut args),
+        Call::Window => pair_line(
+            heap,
+            "window",
+            &mut args,
+            |line| holder.window(tracker, line),
+        ),
         Call::Ask => ask_line(heap, tracker, &mut args),
-        Call::File => file_line(heap, tracker, holder, &mut args),
+        Call::File => pair_line(heap, "slip", &mut args, |n| holder.file(tracker, n)),
         _ => holder.own(heap, call, &mut args),
     }
 }

@@ -6,20 +6,17 @@ use frame::refusal::Refusal;
 use std::alloc::{AllocError, AllocFailed};
 
 // What a line of the script asks for.
-#[derive(Clone, Copy)]
+#[derive(Clone, Copy, Debug, PartialEq, Eq)]
 pub enum Command<'a> {
-    // an empty line, or a comment
-    Nothing,
     Clause(&'a [u8]),
     Reverse,
     Scan(&'a [u8]),
     View(&'a [u8]),
     Explain(&'a [u8]),
-    Wrong(Mistake),
 }
 
 // A mistake in the script itself.
-#[derive(Clone, Copy)]
+#[derive(Clone, Copy, Debug, PartialEq, Eq)]
 pub enum Mistake {
     UnknownCommand,
     TooManyWords,
@@ -39,7 +36,7 @@ pub enum Mistake {
 }
 
 // Why a command has no answer of its own.
-#[derive(Clone, Copy)]
+#[derive(Clone, Copy, Debug, PartialEq, Eq)]
 pub enum Trouble {
     Memory,
     Script(Mistake),
@@ -75,12 +72,10 @@ pub fn cut_at(line: &[u8], mark: u8) -> (&[u8], &[u8])
     ensures word { result.0.now ≡ before_mark mark line.now }
     ensures behind { result.1.now ≡ behind_mark mark line.now }
 {
-    for (i, b) in line.iter().enumerate() {
-        if *b == mark {
-            return (&line[0..i], &line[i + 1..]);
-        }
+    match line.iter().position(|b| *b == mark) {
+        Some(i) => (&line[..i], &line[i + 1..]),
+        None => (line, &line[line.len()..]),
     }
-    (line, &line[line.len()..])
 }
 
 // A line's first word, and what stands behind the space after it.
@@ -107,29 +102,30 @@ fn is_passed_over(line: &[u8]) -> bool
     }
 }
 
-// Reads one line of the script.
-pub fn read_command(line: &[u8]) -> Command<'_>
+// Reads one line of the script: nothing where it is empty or a comment. Of a `match` on byte strings a case
+// stays open for each byte at which a word may part from a name, so the names are asked for in turn.
+pub fn read_command(line: &[u8]) -> Result<Option<Command<'_>>, Mistake>
     ensures { meant result ≡ command line.now }
 {
     if is_passed_over(line) {
-        return Command::Nothing;
+        return Ok(None);
     }
     let (word, behind) = cut(line);
     if is(word, "clause") {
-        Command::Clause(behind)
+        Ok(Some(Command::Clause(behind)))
     } else if is(word, "reverse") {
         if behind.is_empty() {
-            Command::Reverse
+            Ok(Some(Command::Reverse))
         } else {
-            Command::Wrong(Mistake::TooManyWords)
+            Err(Mistake::TooManyWords)
         }
     } else if is(word, "scan") {
-        Command::Scan(behind)
+        Ok(Some(Command::Scan(behind)))
     } else if is(word, "view") {
-        Command::View(behind)
+        Ok(Some(Command::View(behind)))
     } else if is(word, "explain") {
-        Command::Explain(behind)
+        Ok(Some(Command::Explain(behind)))
     } else {
-        Command::Wrong(Mistake::UnknownCommand)
+        Err(Mistake::UnknownCommand)
     }
 }

@@ -1,10 +1,8 @@
-use crate::answer::refusal_line;
 use crate::args::Args;
-use crate::command::{Mistake, Trouble, is};
-use crate::keys::{ScriptKey, read_key};
+use crate::command::{Mistake, Trouble};
+use crate::keys::{Kind, ScriptKey, read_key};
 use frame::bound::WindowFrameUnits;
 use frame::frame::WindowFrame;
-use frame::refusal::Refusal;
 use meaning::options::SortOptions;
 use search::explain::window_of;
 use search::opening::check_opening;
@@ -21,21 +19,27 @@ use transcript::stamps::StampView;
 pub fn read_options(args: &mut Args) -> Result<SortOptions, Mistake> {
     let order = args.word()?;
     let unmarked = args.word()?;
-    let descending = is(order, "desc");
-    let unmarked_first = is(unmarked, "first");
-    if !(descending || is(order, "asc")) || !(unmarked_first || is(unmarked, "last")) {
-        return Err(Mistake::BadOption);
-    }
+    let descending = match order {
+        b"asc" => false,
+        b"desc" => true,
+        _ => return Err(Mistake::BadOption),
+    };
+    let unmarked_first = match unmarked {
+        b"first" => true,
+        b"last" => false,
+        _ => return Err(Mistake::BadOption),
+    };
     Ok(SortOptions {
         descending,
         unmarked_first,
     })
 }
 
+// The keys that are left.
 pub fn read_keys<K: ScriptKey>(heap: Global, args: &mut Args) -> Result<Vec<Option<K>>, Trouble> {
     let mut keys: Vec<Option<K>> = Vec::new(heap);
-    while !args.is_empty() {
-        keys.push(read_key(args.word()?)?)?;
+    for word in args {
+        keys.push(read_key(word)?)?;
     }
     Ok(keys)
 }
@@ -48,33 +52,13 @@ fn window_over<K: ScriptKey>(
     line: u32,
     view: StampView<K>,
 ) -> Result<String, Trouble> {
-    let window = window_of(&view, frame, options, line);
-    let Some((start, end)) = window else {
-        return Err(Trouble::Script(Mistake::NoSuchLine));
-    };
+    let (start, end) = window_of(&view, frame, options, line).ok_or(Mistake::NoSuchLine)?;
     if let WindowFrameUnits::Range = frame.units() {
         if first_disorder(&view, options, 1).is_some() {
             return Err(Trouble::Script(Mistake::OutOfOrder));
         }
     }
     Ok(format!(in heap; "window {start} {end}")?)
-}
-
-fn explained<K: ScriptKey>(
-    heap: Global,
-    frame: &WindowFrame,
-    options: SortOptions,
-    line: u32,
-    keys: &[Option<K>],
-) -> Result<String, Trouble> {
-    if let Err(refusal) = check_opening(frame, K::column_count()) {
-        return Ok(refusal_line(heap, refusal)?);
-    }
-    let made: Result<StampView<K>, Refusal> = StampView::new(0, keys);
-    match made {
-        Ok(view) => window_over(heap, frame, options, line, view),
-        Err(refusal) => Ok(refusal_line(heap, refusal)?),
-    }
 }
 
 fn explain_by<K: ScriptKey>(
@@ -85,7 +69,9 @@ fn explain_by<K: ScriptKey>(
     args: &mut Args,
 ) -> Result<String, Trouble> {
     let keys: Vec<Option<K>> = read_keys(heap, args)?;
-    explained(heap, frame, options, line, keys.as_slice())
+    check_opening(frame, K::column_count())?;
+    let view: StampView<K> = StampView::new(0, keys.as_slice())?;
+    window_over(heap, frame, options, line, view)
 }
 
 // The answer to `explain N KIND ORDER UNMARKED KEY KEY ..`.
@@ -94,22 +80,15 @@ pub fn explain_line(
     frame: Option<WindowFrame>,
     args: &[u8],
 ) -> Result<String, Trouble> {
-    let Some(frame) = frame else {
-        return Err(Trouble::Script(Mistake::NoFrame));
-    };
+    let frame = frame.ok_or(Mistake::NoFrame)?;
     let mut args = Args::new(args);
     let line = args.number32()?;
     let kind = args.word()?;
     let options = read_options(&mut args)?;
-    if is(kind, "plain") {
-        explain_by::<Plain>(heap, &frame, options, line, &mut args)
-    } else if is(kind, "elapsed") {
-        explain_by::<Elapsed>(heap, &frame, options, line, &mut args)
-    } else if is(kind, "mark") {
-        explain_by::<Mark>(heap, &frame, options, line, &mut args)
-    } else if is(kind, "turn") {
-        explain_by::<Turn>(heap, &frame, options, line, &mut args)
-    } else {
-        Err(Trouble::Script(Mistake::BadKind))
+    match Kind::try_from(kind)? {
+        Kind::Plain => explain_by::<Plain>(heap, &frame, options, line, &mut args),
+        Kind::Elapsed => explain_by::<Elapsed>(heap, &frame, options, line, &mut args),
+        Kind::Mark => explain_by::<Mark>(heap, &frame, options, line, &mut args),
+        Kind::Turn => explain_by::<Turn>(heap, &frame, options, line, &mut args),
     }
 }

@@ -7,7 +7,7 @@ use frame::refusal::Refusal;
 use packed::reads::PackedKey;
 use packed::scan::scan;
 use packed::view::PackedView;
-use std::alloc::Global;
+use std::alloc::{AllocError, Global};
 use std::marker::PhantomData;
 use tracker::filing::{file_packed, file_roll};
 use tracker::roll::Roll;
@@ -17,6 +17,9 @@ use transcript::stamps::StampView;
 // What holds the lines of a sitting: it shows them, has them filed away, and has commands of its own.
 pub trait Holder {
     type Key: ScriptKey;
+
+    // With no lines yet, and a table of its own of so many entries.
+    fn empty(heap: Global, size: usize) -> Result<Self, AllocError>;
 
     fn window(
         &self,
@@ -50,13 +53,20 @@ impl<K: ScriptKey> RollHolder<K> {
         args.end()?;
         let (first, count) = self.roll.numbers();
         let mut text = format!(in heap; "roll {first} {count}")?;
-        push_keys(&mut text, heap, self.slots.as_slice())?;
+        push_keys(&mut text, self.slots.as_slice())?;
         Ok(text)
     }
 }
 
 impl<K: ScriptKey> Holder for RollHolder<K> {
     type Key = K;
+
+    fn empty(heap: Global, size: usize) -> Result<RollHolder<K>, AllocError> {
+        Ok(RollHolder {
+            roll: Roll::starting(0),
+            slots: (0..size).map(|_| None).collect(heap)?,
+        })
+    }
 
     fn window(&self, tracker: &mut Tracker<'_, K>, line: u32) -> Result<(u32, u32), Refusal> {
         let view: StampView<K> = self.roll.view(self.slots.as_slice())?;
@@ -89,11 +99,7 @@ pub struct PackedHolder<K> {
 
 // What stands behind so many bytes.
 fn behind(bytes: &[u8], n: usize) -> &[u8] {
-    if n <= bytes.len() {
-        &bytes[n..]
-    } else {
-        &bytes[bytes.len()..]
-    }
+    bytes.get(n..).unwrap_or(&[])
 }
 
 impl<K: PackedKey + ScriptKey> PackedHolder<K> {
@@ -121,13 +127,23 @@ impl<K: PackedKey + ScriptKey> PackedHolder<K> {
     fn shown(&self, heap: Global, args: &mut Args) -> Result<String, Trouble> {
         args.end()?;
         let mut text = String::from_str(heap, "places")?;
-        push_numbers(&mut text, heap, self.places.as_slice())?;
+        push_numbers(&mut text, self.places.as_slice())?;
         Ok(text)
     }
 }
 
 impl<K: PackedKey + ScriptKey> Holder for PackedHolder<K> {
     type Key = K;
+
+    fn empty(heap: Global, size: usize) -> Result<PackedHolder<K>, AllocError> {
+        Ok(PackedHolder {
+            first: 0,
+            bytes: Vec::new(heap),
+            places: vec![in heap; 0; size]?,
+            filed: 0,
+            kind: PhantomData,
+        })
+    }
 
     fn window(&self, tracker: &mut Tracker<'_, K>, line: u32) -> Result<(u32, u32), Refusal> {
         let view = self.view()?;
@@ -155,5 +171,22 @@ impl<K: PackedKey + ScriptKey> Holder for PackedHolder<K> {
             Call::Places => self.shown(heap, args),
             _ => Err(Trouble::Script(Mistake::NotHere)),
         }
+    }
+}
+
+#[cfg(test)]
+mod tests {
+    use super::*;
+    use std::test::Fail;
+    use transcript::keys::elapsed::Elapsed;
+
+    #[test]
+    fn empty_holders_have_their_tables(rt: HostRuntime) -> Result<(), Fail> {
+        let heap = rt.alloc();
+        let roll: RollHolder<Elapsed> = RollHolder::empty(heap, 4)?;
+        assert_eq!(rt; roll.slots.len(), 4);
+        let packed: PackedHolder<Elapsed> = PackedHolder::empty(heap, 3)?;
+        assert_eq!(rt; packed.places.len(), 3);
+        Ok(())
     }
 }

@@ -1,15 +1,12 @@
 use crate::args::Args;
-use crate::command::{Mistake, Trouble, is};
+use crate::command::{Mistake, Trouble};
 use crate::explains::read_options;
-use crate::holders::{PackedHolder, RollHolder};
-use crate::keys::ScriptKey;
+use crate::holders::{Holder, PackedHolder, RollHolder};
+use crate::keys::{Kind, ScriptKey};
 use frame::frame::WindowFrame;
 use meaning::options::SortOptions;
-use packed::reads::PackedKey;
 use std::alloc::Global;
-use std::marker::PhantomData;
 use tracker::opening::{Opening, open};
-use tracker::roll::Roll;
 use transcript::keys::elapsed::Elapsed;
 use transcript::keys::mark::Mark;
 use transcript::keys::plain::Plain;
@@ -23,7 +20,7 @@ pub struct Start<K, H> {
     pub holder: H,
 }
 
-// By key kind and holder.
+// By key kind and holder. An enum, since no function may hand out a boxed trait object.
 #[derive(Drop)]
 pub enum Request {
     Plain(Start<Plain, RollHolder<Plain>>),
@@ -34,12 +31,31 @@ pub enum Request {
     PackedTurn(Start<Turn, PackedHolder<Turn>>),
 }
 
+// Where the lines of a sitting are held.
+#[derive(Clone, Copy, Debug, PartialEq, Eq)]
+enum Place {
+    Roll,
+    Packed,
+}
+
+impl TryFrom<&[u8]> for Place {
+    type Error = Mistake;
+
+    fn try_from(word: &[u8]) -> Result<Place, Mistake> {
+        match word {
+            b"roll" => Ok(Place::Roll),
+            b"packed" => Ok(Place::Packed),
+            _ => Err(Mistake::BadHolder),
+        }
+    }
+}
+
 // How `open` goes on behind the kind.
 #[derive(Clone, Copy)]
 struct Wanted {
     options: SortOptions,
     entries: usize,
-    packed: bool,
+    place: Place,
     size: usize,
 }
 
@@ -47,128 +63,51 @@ struct Wanted {
 fn read_wanted(args: &mut Args) -> Result<Wanted, Mistake> {
     let options = read_options(args)?;
     let entries = args.size()?;
-    let holder = args.word()?;
-    let packed = is(holder, "packed");
-    if !(packed || is(holder, "roll")) {
-        return Err(Mistake::BadHolder);
-    }
+    let place = Place::try_from(args.word()?)?;
     let size = args.size()?;
     args.end()?;
     Ok(Wanted {
         options,
         entries,
-        packed,
+        place,
         size,
     })
 }
 
-fn unmarked_slots<K: ScriptKey>(heap: Global, n: usize) -> Result<Vec<Option<K>>, Trouble> {
-    let mut slots: Vec<Option<K>> = Vec::new(heap);
-    for _ in 0..n {
-        slots.push(None)?;
-    }
-    Ok(slots)
-}
-
-fn start_roll<K: ScriptKey>(
+fn begin<K: ScriptKey, H: Holder<Key = K> + Drop>(
     heap: Global,
     frame: &WindowFrame,
     wanted: Wanted,
-) -> Result<Start<K, RollHolder<K>>, Trouble> {
+) -> Result<Start<K, H>, Trouble> {
     let opening: Opening<K> = open(frame, wanted.options)?;
     let table: Vec<u64> = vec![in heap; 0; wanted.entries]?;
-    let slots = unmarked_slots(heap, wanted.size)?;
+    let holder = H::empty(heap, wanted.size)?;
     Ok(Start {
         opening,
         table,
-        holder: RollHolder {
-            roll: Roll::starting(0),
-            slots,
-        },
+        holder,
     })
 }
 
-fn start_packed<K: PackedKey + ScriptKey>(
-    heap: Global,
-    frame: &WindowFrame,
-    wanted: Wanted,
-) -> Result<Start<K, PackedHolder<K>>, Trouble> {
-    let opening: Opening<K> = open(frame, wanted.options)?;
-    let table: Vec<u64> = vec![in heap; 0; wanted.entries]?;
-    let places: Vec<u32> = vec![in heap; 0; wanted.size]?;
-    Ok(Start {
-        opening,
-        table,
-        holder: PackedHolder {
-            first: 0,
-            bytes: Vec::new(heap),
-            places,
-            filed: 0,
-            kind: PhantomData,
-        },
-    })
-}
-
-// A sitting over packed bytes, for the kinds that they have.
-fn request_packed(
-    heap: Global,
-    frame: &WindowFrame,
-    kind: &[u8],
-    wanted: Wanted,
-) -> Result<Request, Trouble> {
-    if is(kind, "elapsed") {
-        Ok(Request::PackedElapsed(start_packed(heap, frame, wanted)?))
-    } else if is(kind, "turn") {
-        Ok(Request::PackedTurn(start_packed(heap, frame, wanted)?))
-    } else {
-        Err(Trouble::Script(Mistake::BadKind))
-    }
-}
-
-fn request_roll(
-    heap: Global,
-    frame: &WindowFrame,
-    kind: &[u8],
-    wanted: Wanted,
-) -> Result<Request, Trouble> {
-    if is(kind, "plain") {
-        Ok(Request::Plain(start_roll(heap, frame, wanted)?))
-    } else if is(kind, "elapsed") {
-        Ok(Request::Elapsed(start_roll(heap, frame, wanted)?))
-    } else if is(kind, "mark") {
-        Ok(Request::Mark(start_roll(heap, frame, wanted)?))
-    } else if is(kind, "turn") {
-        Ok(Request::Turn(start_roll(heap, frame, wanted)?))
-    } else {
-        Err(Trouble::Script(Mistake::BadKind))
-    }
-}
-
-// What `open KIND ORDER UNMARKED ENTRIES roll SLOTS` and `.. packed PLACES` ask for.
+// What `open KIND ORDER UNMARKED ENTRIES roll SLOTS` and `.. packed PLACES` ask for, and the kind.
 pub fn read_open(
     heap: Global,
     frame: Option<WindowFrame>,
     args: &[u8],
-) -> Result<Request, Trouble> {
-    let Some(frame) = frame else {
-        return Err(Trouble::Script(Mistake::NoFrame));
-    };
+) -> Result<(Kind, Request), Trouble> {
+    let frame = frame.ok_or(Mistake::NoFrame)?;
     let mut args = Args::new(args);
     let kind = args.word()?;
     let wanted = read_wanted(&mut args)?;
-    if wanted.packed {
-        request_packed(heap, &frame, kind, wanted)
-    } else {
-        request_roll(heap, &frame, kind, wanted)
-    }
-}
-
-// The word for the kind.
-pub fn kind_of(request: &Request) -> &'static str {
-    match request {
-        Request::Plain(_) => "plain",
-        Request::Elapsed(_) | Request::PackedElapsed(_) => "elapsed",
-        Request::Mark(_) => "mark",
-        Request::Turn(_) | Request::PackedTurn(_) => "turn",
-    }
+    let kind = Kind::try_from(kind)?;
+    let request = match (wanted.place, kind) {
+        (Place::Roll, Kind::Plain) => Request::Plain(begin(heap, &frame, wanted)?),
+        (Place::Roll, Kind::Elapsed) => Request::Elapsed(begin(heap, &frame, wanted)?),
+        (Place::Roll, Kind::Mark) => Request::Mark(begin(heap, &frame, wanted)?),
+        (Place::Roll, Kind::Turn) => Request::Turn(begin(heap, &frame, wanted)?),
+        (Place::Packed, Kind::Elapsed) => Request::PackedElapsed(begin(heap, &frame, wanted)?),
+        (Place::Packed, Kind::Turn) => Request::PackedTurn(begin(heap, &frame, wanted)?),
+        (Place::Packed, _) => return Err(Trouble::Script(Mistake::BadKind)),
+    };
+    Ok((kind, request))
 }

@@ -1,8 +1,7 @@
-use crate::answer::{push_numbers, refusal_line};
-use crate::args::Args;
-use crate::command::{Mistake, Trouble, is};
-use crate::keys::ScriptKey;
-use frame::refusal::Refusal;
+use crate::answer::{push_key, push_numbers};
+use crate::args::{Args, number32_of};
+use crate::command::{Mistake, Trouble};
+use crate::keys::{Kind, ScriptKey};
 use packed::reads::PackedKey;
 use packed::scan::scan;
 use packed::view::PackedView;
@@ -11,17 +10,6 @@ use transcript::keys::elapsed::Elapsed;
 use transcript::keys::turn::Turn;
 use transcript::view::Transcript;
 
-fn scan_text(heap: Global, table: &mut [u32], bytes: &[u8]) -> Result<String, AllocError> {
-    match scan(table, bytes) {
-        Ok(n) => {
-            let mut text = format!(in heap; "scan {n}")?;
-            push_numbers(&mut text, heap, table)?;
-            Ok(text)
-        }
-        Err(refusal) => refusal_line(heap, refusal),
-    }
-}
-
 // The answer to `scan PLACES HEX`.
 pub fn scan_line(heap: Global, args: &[u8]) -> Result<String, Trouble> {
     let mut args = Args::new(args);
@@ -29,7 +17,10 @@ pub fn scan_line(heap: Global, args: &[u8]) -> Result<String, Trouble> {
     let bytes = args.bytes(heap)?;
     args.end()?;
     let mut table: Vec<u32> = vec![in heap; 0; places]?;
-    Ok(scan_text(heap, table.as_mut_slice(), bytes.as_slice())?)
+    let n = scan(table.as_mut_slice(), bytes.as_slice())?;
+    let mut text = format!(in heap; "scan {n}")?;
+    push_numbers(&mut text, table.as_slice())?;
+    Ok(text)
 }
 
 // A view's first line and total, and the key of each line.
@@ -40,14 +31,8 @@ where
     let first = view.first();
     let total = view.total();
     let mut text = format!(in heap; "view {first} {total}")?;
-    for n in first..total {
-        match view.line(n) {
-            Some(key) => {
-                text.push_str(" ")?;
-                text.push_str(key.text(heap)?.as_str())?;
-            }
-            None => text.push_str(" -")?,
-        }
+    for key in (first..total).map(|n| view.line(n)) {
+        push_key(&mut text, key)?;
     }
     Ok(text)
 }
@@ -57,12 +42,9 @@ fn packed_text<K: PackedKey + ScriptKey>(
     first: u32,
     bytes: &[u8],
     places: &[u32],
-) -> Result<String, AllocError> {
-    let made: Result<PackedView<K>, Refusal> = PackedView::new(first, bytes, places);
-    match made {
-        Ok(view) => view_text(heap, &view),
-        Err(refusal) => refusal_line(heap, refusal),
-    }
+) -> Result<String, Trouble> {
+    let view: PackedView<K> = PackedView::new(first, bytes, places)?;
+    Ok(view_text(heap, &view)?)
 }
 
 // The answer to `view KIND FIRST HEX P P ..`.
@@ -72,14 +54,12 @@ pub fn view_line(heap: Global, args: &[u8]) -> Result<String, Trouble> {
     let first = args.number32()?;
     let bytes = args.bytes(heap)?;
     let mut places: Vec<u32> = Vec::new(heap);
-    while !args.is_empty() {
-        places.push(args.number32()?)?;
+    for word in args {
+        places.push(number32_of(word)?)?;
     }
-    if is(kind, "elapsed") {
-        Ok(packed_text::<Elapsed>(heap, first, bytes.as_slice(), places.as_slice())?)
-    } else if is(kind, "turn") {
-        Ok(packed_text::<Turn>(heap, first, bytes.as_slice(), places.as_slice())?)
-    } else {
-        Err(Trouble::Script(Mistake::BadKind))
+    match Kind::try_from(kind)? {
+        Kind::Elapsed => packed_text::<Elapsed>(heap, first, bytes.as_slice(), places.as_slice()),
+        Kind::Turn => packed_text::<Turn>(heap, first, bytes.as_slice(), places.as_slice()),
+        Kind::Plain | Kind::Mark => Err(Trouble::Script(Mistake::BadKind)),
     }
 }

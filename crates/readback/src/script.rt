@@ -2,7 +2,7 @@ use crate::asks::{Ask, Call, read_ask};
 use crate::calls::{call_line, table_line};
 use crate::holders::Holder;
 use crate::keys::ScriptKey;
-use crate::opens::{Request, Start, kind_of, read_open};
+use crate::opens::{Request, Start, read_open};
 use crate::session::{Session, told};
 use std::io::{BufRead, BufReader, Split, Stdin};
 
@@ -13,8 +13,7 @@ type Lines = Split<BufReader<Stdin>>;
 fn opened(rt: &HostRuntime, session: &Session, args: &[u8]) -> anyhow::Result<Option<Request>> {
     let heap = rt.alloc();
     match read_open(heap, session.frame(), args) {
-        Ok(request) => {
-            let kind = kind_of(&request);
+        Ok((kind, request)) => {
             println!(rt; "open {kind}")?;
             Ok(Some(request))
         }
@@ -107,6 +106,7 @@ pub fn run(rt: &HostRuntime) -> anyhow::Result<()> {
     let mut lines = BufReader::new(heap, rt.stdin())?.split(heap, b'\n');
     let mut session = Session::new();
     let mut next = before_opening(rt, &mut lines, &mut session)?;
+    // Every loop has to be shown to end, and nothing else bounds how many sittings a script opens.
     for _ in 0..u64::MAX {
         match next {
             Some(request) => next = sit_on(rt, &mut lines, &mut session, request)?,

@@ -6,7 +6,7 @@ ghost use Rattle.readback.specs.Commands.{command};
 ghost use Rattle.readback.specs.Lines.{clause_line};
 ghost use Rattle.readback.specs.Scripts.{current, taken, after, reverse_line, Replies};
 
-use crate::answer::{clause_line, error_line, frame_line, refusal_line};
+use crate::answer::{clause_line, error_line, frame_line};
 use crate::command::{Command, Mistake, Trouble, read_command};
 use crate::explains::explain_line;
 use crate::packs::{scan_line, view_line};
@@ -16,12 +16,7 @@ use std::alloc::{AllocError, Global};
 
 // A command's answer, where trouble is answered too.
 pub fn told(heap: Global, answer: Result<String, Trouble>) -> Result<String, AllocError> {
-    match answer {
-        Ok(text) => Ok(text),
-        Err(Trouble::Refused(refusal)) => refusal_line(heap, refusal),
-        Err(Trouble::Script(mistake)) => error_line(heap, mistake),
-        Err(Trouble::Memory) => error_line(heap, Mistake::NoMemory),
-    }
+    answer.or_else(|trouble| format!(in heap; "{trouble}"))
 }
 
 // What a script has set up so far.
@@ -50,13 +45,13 @@ impl Session {
         ensures state { current self.new ≡ after (current self.old) (command line.now) }
     {
         let answer = match read_command(line) {
-            Command::Nothing => return Ok(None),
-            Command::Clause(text) => self.clause(heap, text)?,
-            Command::Reverse => self.reverse(heap)?,
-            Command::Scan(args) => told(heap, scan_line(heap, args))?,
-            Command::View(args) => told(heap, view_line(heap, args))?,
-            Command::Explain(args) => told(heap, explain_line(heap, self.frame, args))?,
-            Command::Wrong(mistake) => error_line(heap, mistake)?,
+            Ok(None) => return Ok(None),
+            Ok(Some(Command::Clause(text))) => self.clause(heap, text)?,
+            Ok(Some(Command::Reverse)) => self.reverse(heap)?,
+            Ok(Some(Command::Scan(args))) => told(heap, scan_line(heap, args))?,
+            Ok(Some(Command::View(args))) => told(heap, view_line(heap, args))?,
+            Ok(Some(Command::Explain(args))) => told(heap, explain_line(heap, self.frame, args))?,
+            Err(mistake) => error_line(heap, mistake)?,
         };
         Ok(Some(answer))
     }
@@ -67,7 +62,7 @@ impl Session {
         ensures state { current self.new ≡ taken (current self.old) (clause_of_text text.now) }
     {
         let reading = read_clause(text);
-        if let Ok(frame) = reading.frame {
+        if let Ok(frame) = reading {
             self.frame = Some(frame);
         }
         clause_line(heap, &reading)

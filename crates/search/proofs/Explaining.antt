@@ -1,83 +1,55 @@
 -- A window reckoned from all lines of a view.
-use Rattle.std.proofs.Common.{◌≡◌, ℕ, ◌+◌, ◌-◌, ◌<◌, ◌≤◌, min, Bool, ltb, ◌⊎◌, List, length, get_or, ℤ, None, Option, sym, refl, ap, ◌∙◌, inl, inr, ⊎_elim, arith}
-use Rattle.std.proofs.lemmas.Bool.{cases_lt, lt-ltb}
+use Rattle.std.proofs.Common.{◌≡◌, ℕ, ◌+◌, ◌-◌, ◌<◌, ◌≤◌, min, Bool, cond, ltb, List, length, None, sym, refl, ap, ◌∙◌, ⊎_elim, arith}
+use Rattle.std.proofs.lemmas.Bool.{cases_lt, lt-ltb, le-ltb}
 use Rattle.frame.specs.declared.bound.WindowFrameBound.{WindowFrameBound}
 use Rattle.frame.specs.declared.bound.WindowFrameBound.TheVariants.{UnboundedPreceding, Preceding, CurrentRow, Following, UnboundedFollowing}
-use Rattle.meaning.specs.declared.options.SortOptions.{SortOptions}
 use Rattle.meaning.specs.Clause.{same_line}
 use Rattle.meaning.specs.Counts.{how_many_from}
-use Rattle.meaning.specs.Lines.{Line, ranked}
-use Rattle.meaning.specs.Ranges.{target, lead, reach, range_start, range_end}
-use Rattle.search.specs.Tests.{led, reached_at}
-use Rattle.meaning.specs.Turns.{parts, turn_of, first_of}
-use Rattle.meaning.proofs.Counts.{count_le, count_all}
-use Rattle.search.proofs.Seeking.{ranked_length}
-use Rattle.search.proofs.Sorting.{lead_counted, reach_counted}
+use Rattle.meaning.specs.Lines.{Line}
+use Rattle.meaning.specs.Turns.{parts, turn_of, first_of, end_of}
+use Rattle.meaning.proofs.Counts.{count_le, count_all, count_none}
+use Rattle.search.specs.Views.{edge_at}
 
--- no more pass than there are
-pub from_le : (p : ℕ → Bool) (a m : ℕ) → how_many_from p a m ≤ m
-from_le p a m = count_le (λ j. p (a + j)) m
+-- a bound that is not unbounded stands where it is reckoned
+edge_inside : (b : WindowFrameBound) (first total at : ℕ) → (b ≡ UnboundedPreceding → ⊥) → (b ≡ UnboundedFollowing → ⊥) → edge_at b first total at ≡ at
+edge_inside UnboundedPreceding first total at h g = absurd (h refl)
+edge_inside (Preceding n) first total at h g = refl
+edge_inside CurrentRow first total at h g = refl
+edge_inside (Following n) first total at h g = refl
+edge_inside UnboundedFollowing first total at h g = absurd (g refl)
 
-lead_is : (o : SortOptions) (b : WindowFrameBound) (ys : List Line) (i : ℕ) → (b ≡ UnboundedPreceding → ⊥) → (b ≡ UnboundedFollowing → ⊥) → lead o ys (target o b (get_or ys i None)) ≡ range_start o b ys i
-lead_is o UnboundedPreceding ys i h g = absurd (h refl)
-lead_is o (Preceding n) ys i h g = refl
-lead_is o CurrentRow ys i h g = refl
-lead_is o (Following n) ys i h g = refl
-lead_is o UnboundedFollowing ys i h g = absurd (g refl)
+-- F and T are the view's first line f and its total over n lines, as the code has them
+pub edge_counted : (b : WindowFrameBound) (p : ℕ → Bool) (f n F T r : ℕ) → F ≡ f → T ≡ f + n → (b ≡ UnboundedPreceding → ⊥) → (b ≡ UnboundedFollowing → ⊥) → r ≡ how_many_from p F (T - F) → F + r ≡ edge_at b f (f + n) (f + how_many_from p f n)
+edge_counted b p f n F T r first total h g e =
+    let d : T - f ≡ n = omega arith in
+    ap (λ (k : ℕ). F + k) e
+    ∙ ap (λ (k : ℕ). k + how_many_from p k (T - k)) first
+    ∙ ap (λ (k : ℕ). f + how_many_from p f k) d
+    ∙ sym (edge_inside b f (f + n) (f + how_many_from p f n) h g)
 
-reach_is : (o : SortOptions) (b : WindowFrameBound) (ys : List Line) (i : ℕ) → (b ≡ UnboundedPreceding → ⊥) → (b ≡ UnboundedFollowing → ⊥) → reach o ys (target o b (get_or ys i None)) ≡ range_end o b ys i
-reach_is o UnboundedPreceding ys i h g = absurd (h refl)
-reach_is o (Preceding n) ys i h g = refl
-reach_is o CurrentRow ys i h g = refl
-reach_is o (Following n) ys i h g = refl
-reach_is o UnboundedFollowing ys i h g = absurd (g refl)
+module _ (ys : List Line) where
+  -- the end of a turn some turns back
+  pub first_back : (g n : ℕ) → first_of None same_line ys (g + 1 - n) ≡ cond (ltb g n) 0 (end_of None same_line ys (g - n))
+  first_back g n =
+      ⊎_elim
+      (λ (l : g < n).
+      let e : g + 1 - n ≡ 0 = omega arith in
+      ap (first_of None same_line ys) e
+      ∙ count_none (λ j. ltb (turn_of None same_line ys j) 0) (length ys) (λ j l. le-ltb _ 0 (omega arith))
+      ∙ sym (ap (λ (b : Bool). cond b 0 (end_of None same_line ys (g - n))) (lt-ltb g n l)))
+      (λ (l : n ≤ g).
+      let e : g + 1 - n ≡ g - n + 1 = omega arith in
+      ap (first_of None same_line ys) e ∙ sym (ap (λ (b : Bool). cond b 0 (end_of None same_line ys (g - n))) (le-ltb g n l)))
+      (cases_lt g n)
 
--- F and T are the view's first line and total, as the code has them
-module _ {K : Type 0} (rank : K → ℤ) (f : ℕ) (xs : List (Option K)) (F T n r : ℕ) (first : F ≡ f) (total : T ≡ f + length xs) where
-  -- a number that depends on how many lines there are and on the line's place among them
-  pub by_place : (h : ℕ → ℕ → ℕ) → r ≡ h (T - F) (n - F) → F + r ≡ f + h (length (ranked rank xs)) (n - f)
-  by_place h e =
-      let len = ranked_length rank xs in
-      let a : T - F ≡ length (ranked rank xs) = omega arith in
-      let b : n - F ≡ n - f = omega arith in
-      let q : r ≡ h (length (ranked rank xs)) (n - f) = e ∙ ap (λ (k : ℕ). h k (n - F)) a ∙ ap (h (length (ranked rank xs))) b in
-      omega arith
+  -- past the last turn every number names the end
+  past_turns : (k : ℕ) → length ys ≤ k → first_of None same_line ys k ≡ length ys
+  past_turns k h = count_all (λ j. ltb (turn_of None same_line ys j) k) (length ys) (λ j l. lt-ltb _ _ (omega (arith, count_le (parts None same_line ys) j)))
 
-  pub all_of : T ≡ f + length (ranked rank xs)
-  all_of = omega (arith, ranked_length rank xs)
-
-  module _ (o : SortOptions) (b : WindowFrameBound) (low : f ≤ n) (not_first : b ≡ UnboundedPreceding → ⊥) (not_last : b ≡ UnboundedFollowing → ⊥) where
-    pub start_counted : r ≡ how_many_from (led rank f xs o b n) F (T - F) → F + r ≡ f + range_start o b (ranked rank xs) (n - f)
-    start_counted e =
-        let q : r ≡ range_start o b (ranked rank xs) (n - f) =
-        e ∙ ap (λ (k : ℕ). how_many_from (led rank f xs o b n) k (T - k)) first ∙ lead_counted rank f xs o b n T total low ∙ lead_is o b (ranked rank xs) (n - f) not_first not_last in
-        omega arith
-
-    pub end_counted : r ≡ how_many_from (reached_at rank f xs o b n) F (T - F) → F + r ≡ f + range_end o b (ranked rank xs) (n - f)
-    end_counted e =
-        let q : r ≡ range_end o b (ranked rank xs) (n - f) =
-        e ∙ ap (λ (k : ℕ). how_many_from (reached_at rank f xs o b n) k (T - k)) first ∙ reach_counted rank f xs o b n T total low ∙ reach_is o b (ranked rank xs) (n - f) not_first not_last in
-        omega arith
-
--- past the last turn every number names the end
-past_turns : (ys : List Line) (k : ℕ) → length ys ≤ k → first_of None same_line ys k ≡ length ys
-past_turns ys k h = count_all (λ j. ltb (turn_of None same_line ys j) k) (length ys) (λ j l. lt-ltb _ _ (omega (arith, count_le (parts None same_line ys) j)))
-
--- so a sum may stop at a number that no list is as long as
-pub capped : (ys : List Line) (c d : ℕ) → length ys ≤ 18446744073709551615 → (c ≡ d) ⊎ ((18446744073709551615 ≤ c) × (18446744073709551615 ≤ d)) → first_of None same_line ys c ≡ first_of None same_line ys d
-capped ys c d h (inl e) = ap (first_of None same_line ys) e
-capped ys c d h (inr g) = past_turns ys c (omega (arith, g.0)) ∙ sym (past_turns ys d (omega (arith, g.1)))
-
-pub capped_sum : (g n c : ℕ) → c ≡ min (g + n) 18446744073709551615 → (c ≡ g + n) ⊎ ((18446744073709551615 ≤ c) × (18446744073709551615 ≤ g + n))
-capped_sum g n c e =
-    ⊎_elim
-    (λ (l : g + n < 18446744073709551615). inl (omega arith))
-    (λ (h : 18446744073709551615 ≤ g + n). inr (omega arith, omega arith))
-    (cases_lt (g + n) 18446744073709551615)
-
-pub capped_next : (g n c d : ℕ) → c ≡ min (g + n) 18446744073709551615 → d ≡ min (c + 1) 18446744073709551615 → (d ≡ g + n + 1) ⊎ ((18446744073709551615 ≤ d) × (18446744073709551615 ≤ g + n + 1))
-capped_next g n c d e k =
-    ⊎_elim
-    (λ (l : g + n + 1 < 18446744073709551615). inl (omega arith))
-    (λ (h : 18446744073709551615 ≤ g + n + 1). inr (omega arith, omega arith))
-    (cases_lt (g + n + 1) 18446744073709551615)
+  -- so a sum may stop at a number that no list is as long as
+  pub first_on : (t n s d : ℕ) → length ys ≤ 18446744073709551615 → s ≡ min (t + n) 18446744073709551615 → d ≡ t + n → first_of None same_line ys s ≡ first_of None same_line ys d
+  first_on t n s d h e is =
+      ⊎_elim
+      (λ (l : d < 18446744073709551615). let a : s ≡ d = omega arith in ap (first_of None same_line ys) a)
+      (λ (g : 18446744073709551615 ≤ d). past_turns s (omega arith) ∙ sym (past_turns d (omega arith)))
+      (cases_lt d 18446744073709551615)

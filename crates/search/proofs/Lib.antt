@@ -1,3 +1,7 @@
+pub mod Facing
 pub mod Seeking
+pub mod Turning
+pub mod Stopping
+pub mod Filtering
 pub mod Sorting
 pub mod Explaining

@@ -1,8 +1,8 @@
 -- A view's tests and the lists of its lines.
-use Rattle.std.proofs.Common.{◌≡◌, ℕ, zero, suc, ◌+◌, ◌-◌, ◌<◌, ◌≤◌, Bool, true, false, cond, not, ltb, List, [], ◌∷◌, length, get_or, ℤ, None, Option, sym, refl, ap, ◌∙◌, subst, ⊎_elim, arith}
+use Rattle.std.proofs.Common.{◌≡◌, ℕ, zero, suc, ◌+◌, ◌-◌, ◌<◌, ◌≤◌, Bool, true, false, cond, not, ltb, List, [], ◌∷◌, length, get_or, ℤ, None, Option, sym, refl, ap, ◌∙◌, ⊎_elim, arith}
 use Rattle.std.specs.Option.{option_map}
 use Rattle.std.proofs.lemmas.List.{length-map}
-use Rattle.std.proofs.lemmas.Bool.{cases_Bool, cases_lt, lt-ltb, le-ltb, not-true, not-false}
+use Rattle.std.proofs.lemmas.Bool.{cases_Bool, lt-ltb, le-ltb}
 use Rattle.meaning.specs.Counts.{how_many_from, walk}
 use Rattle.meaning.specs.Lines.{Line, ranked}
 use Rattle.meaning.specs.Clause.{same_line}
@@ -117,28 +117,3 @@ module _ {K : Type 0} (rank : K → ℤ) (f : ℕ) (xs : List (Option K)) where
       let ys = ranked rank xs in
       let e = found (λ j. ltb (turn_of None same_line ys j) k) (length ys) (at - f) (front_turns None same_line ys k (length ys)) (omega arith) (λ j l. lt-ltb _ _ (all j l)) (λ l. le-ltb _ _ (stop (omega arith))) in
       omega arith
-
-  -- the turn of the next line
-  pub turn_same : (n : ℕ) → f ≤ n → alike rank f xs (n + 1) ≡ true → turn_at rank f xs (n + 1) ≡ turn_at rank f xs n
-  turn_same n low y =
-      let a : n + 1 ≡ f + (n - f + 1) = omega arith in
-      let b : n - f + 1 - 1 ≡ n - f = omega arith in
-      let s : n + 1 - f ≡ suc (n - f) = omega arith in
-      let p : not (parts None same_line (ranked rank xs) (n - f)) ≡ true = ap (λ (k : ℕ). not (parts None same_line (ranked rank xs) k)) (sym b) ∙ sym (alike_is (n - f + 1) (omega arith)) ∙ ap (alike rank f xs) (sym a) ∙ y in
-      ap (turn_of None same_line (ranked rank xs)) s ∙ count_no (parts None same_line (ranked rank xs)) (n - f) (not-true _ p)
-
-  pub turn_next : (n : ℕ) → f ≤ n → alike rank f xs (n + 1) ≡ false → turn_at rank f xs (n + 1) ≡ turn_at rank f xs n + 1
-  turn_next n low y =
-      let a : n + 1 ≡ f + (n - f + 1) = omega arith in
-      let b : n - f + 1 - 1 ≡ n - f = omega arith in
-      let s : n + 1 - f ≡ suc (n - f) = omega arith in
-      let p : not (parts None same_line (ranked rank xs) (n - f)) ≡ false = ap (λ (k : ℕ). not (parts None same_line (ranked rank xs) k)) (sym b) ∙ sym (alike_is (n - f + 1) (omega arith)) ∙ ap (alike rank f xs) (sym a) ∙ y in
-      ap (turn_of None same_line (ranked rank xs)) s ∙ count_yes (parts None same_line (ranked rank xs)) (n - f) (not-false _ p)
-
--- one number more of which something holds
-pub all_more : (P : ℕ → Type 0) (f n : ℕ) → f ≤ n → ((j : ℕ) → j < n - f → P j) → P (n - f) → (j : ℕ) → j < n + 1 - f → P j
-all_more P f n low all here j h =
-    ⊎_elim
-    (λ (l : j < n - f). all j l)
-    (λ (g : n - f ≤ j). let e : n - f ≡ j = omega arith in subst P e here)
-    (cases_lt j (n - f))

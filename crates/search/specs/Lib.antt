@@ -1,3 +1,3 @@
-pub mod Tests
 pub mod Views
+pub mod Tests
 pub mod Opening

@@ -2,6 +2,8 @@
 use Rattle.std.specs.Prelude.{◌≡◌, ℕ, ◌+◌, ◌-◌, ◌<◌, ◌≤◌, cond, ◌&&◌, List, length, ℤ, Some, None, Option, nat_le, nat_lt}
 use Rattle.meaning.specs.Lines.{ranked}
 use Rattle.meaning.specs.Turns.{turn_of, first_of, end_of}
+use Rattle.frame.specs.declared.bound.WindowFrameBound.{WindowFrameBound}
+use Rattle.frame.specs.declared.bound.WindowFrameBound.TheVariants.{UnboundedPreceding, Preceding, CurrentRow, Following, UnboundedFollowing}
 use Rattle.frame.specs.Frames.{Frame}
 use Rattle.meaning.specs.declared.options.SortOptions.{SortOptions}
 use Rattle.meaning.specs.Clause.{same_line, starts, ends}
@@ -12,6 +14,14 @@ total_of first xs = first + length xs
 -- a number, if it is below the total
 abbrev pub if_below : ℕ → ℕ → Option ℕ
 if_below total n = cond (nat_lt n total) (Some n) None
+
+-- where a bound stands: at the first line or the total where it is unbounded, and else at a line that is reckoned
+abbrev pub edge_at : WindowFrameBound → ℕ → ℕ → ℕ → ℕ
+edge_at UnboundedPreceding first total at = first
+edge_at (Preceding n) first total at = at
+edge_at CurrentRow first total at = at
+edge_at (Following n) first total at = at
+edge_at UnboundedFollowing first total at = total
 
 module _ {K : Type 0} (rank : K → ℤ) (first : ℕ) (xs : List (Option K)) where
   -- the turn of line n

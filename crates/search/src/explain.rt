@@ -1,158 +1,74 @@
-ghost use Rattle.std.specs.Prelude.{◌≡◌, ◌+◌, ◌-◌, ◌<◌, ◌≤◌, None};
+ghost use Rattle.std.specs.Prelude.{◌≡◌, ℕ, ◌+◌, ◌≤◌, length, Bool, None};
 ghost use Rattle.frame.specs.Frames.{framed};
-ghost use Rattle.meaning.specs.Clause.{same_line, starts, ends};
+ghost use Rattle.meaning.specs.Clause.{same_line};
+ghost use Rattle.meaning.specs.Counts.{how_many_from};
 ghost use Rattle.meaning.specs.Lines.{ranked};
-ghost use Rattle.meaning.specs.Ranges.{range_start, range_end};
 ghost use Rattle.meaning.specs.Rows.{rows_start, rows_end};
-ghost use Rattle.meaning.specs.Turns.{groups_start, groups_end};
-ghost use Rattle.search.specs.Views.{total_of, window_at};
+ghost use Rattle.meaning.specs.Turns.{turn_of, groups_start, groups_end};
+ghost use Rattle.search.specs.Tests.{ComputesAgainst};
+ghost use Rattle.search.specs.Views.{total_of, edge_at, window_at};
 
 use crate::groups::{turn_number, turn_start};
-use crate::rows::{rows_end, rows_start};
-use crate::walks::{Leads, Reaches, count_passing};
+use crate::order::{leads, reaches};
+use crate::rows::rows_edge;
+use crate::walks::count_passing;
 use frame::bound::{WindowFrameBound, WindowFrameUnits};
 use frame::frame::WindowFrame;
 use meaning::options::SortOptions;
 use transcript::keys::KeyKind;
 use transcript::view::Transcript;
 
-// Where a ROWS window starts.
-fn start_by_rows<K: KeyKind, V: Transcript<Key = K>>(
-    view: &V,
-    bound: WindowFrameBound,
-    line: u32,
-) -> u32
-    requires low { V.Transcript.starts view.now ≤ line }
-    requires high { line < total_of (V.Transcript.starts view.now) (V.Transcript.lines view.now) }
-    ensures { result ≡ V.Transcript.starts view.now + rows_start bound (ranked K.KeyKind.rank (V.Transcript.lines view.now)) (line - V.Transcript.starts view.now) }
+// Where the ROWS window of a row starts; it ends where that of the next row starts.
+fn row_edge<K: KeyKind, V: Transcript<Key = K>>(view: &V, bound: WindowFrameBound, row: u64) -> u32
+    requires { row ≤ length (V.Transcript.lines view.now) }
+    ensures start { result ≡ V.Transcript.starts view.now + rows_start bound (ranked K.KeyKind.rank (V.Transcript.lines view.now)) row }
+    ensures end { (i : ℕ) → row ≡ i + 1 → result ≡ V.Transcript.starts view.now + rows_end bound (ranked K.KeyKind.rank (V.Transcript.lines view.now)) i }
 {
     let first = view.first();
     let rows = view.total() - first;
-    (first as u64 + rows_start(bound, line - first, rows)) as u32
+    (u64::from(first) + rows_edge(bound, row, rows)) as u32
 }
 
-// Where a ROWS window ends.
-fn end_by_rows<K: KeyKind, V: Transcript<Key = K>>(
-    view: &V,
-    bound: WindowFrameBound,
-    line: u32,
-) -> u32
-    requires low { V.Transcript.starts view.now ≤ line }
-    requires high { line < total_of (V.Transcript.starts view.now) (V.Transcript.lines view.now) }
-    ensures { result ≡ V.Transcript.starts view.now + rows_end bound (ranked K.KeyKind.rank (V.Transcript.lines view.now)) (line - V.Transcript.starts view.now) }
+// Where a RANGE window starts or ends: as many lines on as pass a test against `line`.
+fn order_edge<
+    K: KeyKind,
+    V: Transcript<Key = K>,
+    F: Fn(SortOptions, WindowFrameBound, Option<K>, Option<K>) -> bool,
+>(view: &V, options: SortOptions, bound: WindowFrameBound, line: u32, passes: F) -> u32
+    requires { F.IsAlwaysCallable passes }
+    ensures { (p : ℕ → Bool) → ComputesAgainst (F.post passes) (V.Transcript.starts view.now) (V.Transcript.lines view.now) options bound line p (V.Transcript.starts view.now) → result ≡ edge_at bound (V.Transcript.starts view.now) (total_of (V.Transcript.starts view.now) (V.Transcript.lines view.now)) (V.Transcript.starts view.now + how_many_from p (V.Transcript.starts view.now) (length (V.Transcript.lines view.now))) }
 {
-    let first = view.first();
-    let rows = view.total() - first;
-    (first as u64 + rows_end(bound, line - first, rows)) as u32
-}
-
-// Where a RANGE window starts: how many lines are ordered before the target.
-fn start_by_order<K: KeyKind, V: Transcript<Key = K>>(
-    view: &V,
-    options: SortOptions,
-    bound: WindowFrameBound,
-    line: u32,
-) -> u32
-    requires low { V.Transcript.starts view.now ≤ line }
-    requires high { line < total_of (V.Transcript.starts view.now) (V.Transcript.lines view.now) }
-    ensures { result ≡ V.Transcript.starts view.now + range_start options bound (ranked K.KeyKind.rank (V.Transcript.lines view.now)) (line - V.Transcript.starts view.now) }
-{
-    let first = view.first();
-    let total = view.total();
+    let (first, total) = (view.first(), view.total());
     match bound {
         WindowFrameBound::UnboundedPreceding => first,
         WindowFrameBound::UnboundedFollowing => total,
-        _ => first
-            + count_passing(
-                &Leads {
-                    view,
-                    options,
-                    bound,
-                    line,
-                },
+        _ => {
+            let asked = view.line(line);
+            let passing = count_passing(
                 first,
                 total,
-            ),
+                |n| passes(options, bound, view.line(n), asked),
+            );
+            first + passing
+        }
     }
 }
 
-// Where a RANGE window ends: how many lines are not ordered after the target.
-fn end_by_order<K: KeyKind, V: Transcript<Key = K>>(
+// Where the GROUPS window of a turn's lines starts; it ends where that of the next turn starts.
+fn turn_edge<K: KeyKind, V: Transcript<Key = K>>(
     view: &V,
-    options: SortOptions,
     bound: WindowFrameBound,
-    line: u32,
+    turn: u64,
 ) -> u32
-    requires low { V.Transcript.starts view.now ≤ line }
-    requires high { line < total_of (V.Transcript.starts view.now) (V.Transcript.lines view.now) }
-    ensures { result ≡ V.Transcript.starts view.now + range_end options bound (ranked K.KeyKind.rank (V.Transcript.lines view.now)) (line - V.Transcript.starts view.now) }
+    ensures start { (i : ℕ) → turn ≡ turn_of None same_line (ranked K.KeyKind.rank (V.Transcript.lines view.now)) i → result ≡ V.Transcript.starts view.now + groups_start None same_line bound (ranked K.KeyKind.rank (V.Transcript.lines view.now)) i }
+    ensures end { (i : ℕ) → turn ≡ turn_of None same_line (ranked K.KeyKind.rank (V.Transcript.lines view.now)) i + 1 → result ≡ V.Transcript.starts view.now + groups_end None same_line bound (ranked K.KeyKind.rank (V.Transcript.lines view.now)) i }
 {
-    let first = view.first();
-    let total = view.total();
+    let (first, total) = (view.first(), view.total());
     match bound {
         WindowFrameBound::UnboundedPreceding => first,
-        WindowFrameBound::UnboundedFollowing => total,
-        _ => first
-            + count_passing(
-                &Reaches {
-                    view,
-                    options,
-                    bound,
-                    line,
-                },
-                first,
-                total,
-            ),
-    }
-}
-
-// Where a GROUPS window starts.
-fn start_by_turns<K: KeyKind, V: Transcript<Key = K>>(
-    view: &V,
-    bound: WindowFrameBound,
-    line: u32,
-) -> u32
-    requires low { V.Transcript.starts view.now ≤ line }
-    requires high { line < total_of (V.Transcript.starts view.now) (V.Transcript.lines view.now) }
-    ensures { result ≡ V.Transcript.starts view.now + groups_start None same_line bound (ranked K.KeyKind.rank (V.Transcript.lines view.now)) (line - V.Transcript.starts view.now) }
-{
-    let total = view.total();
-    let turn = turn_number(view, line) as u64;
-    match bound {
-        WindowFrameBound::UnboundedPreceding => view.first(),
         WindowFrameBound::Preceding(n) => turn_start(view, turn.saturating_sub(n)),
         WindowFrameBound::CurrentRow => turn_start(view, turn),
         WindowFrameBound::Following(n) => turn_start(view, turn.saturating_add(n)),
-        WindowFrameBound::UnboundedFollowing => total,
-    }
-}
-
-// Where a GROUPS window ends.
-fn end_by_turns<K: KeyKind, V: Transcript<Key = K>>(
-    view: &V,
-    bound: WindowFrameBound,
-    line: u32,
-) -> u32
-    requires low { V.Transcript.starts view.now ≤ line }
-    requires high { line < total_of (V.Transcript.starts view.now) (V.Transcript.lines view.now) }
-    ensures { result ≡ V.Transcript.starts view.now + groups_end None same_line bound (ranked K.KeyKind.rank (V.Transcript.lines view.now)) (line - V.Transcript.starts view.now) }
-{
-    let total = view.total();
-    let turn = turn_number(view, line) as u64;
-    match bound {
-        WindowFrameBound::UnboundedPreceding => view.first(),
-        WindowFrameBound::Preceding(n) => {
-            if turn < n {
-                view.first()
-            } else {
-                turn_start(view, turn - n + 1)
-            }
-        }
-        WindowFrameBound::CurrentRow => turn_start(view, turn + 1),
-        WindowFrameBound::Following(n) => turn_start(
-            view,
-            turn.saturating_add(n).saturating_add(1),
-        ),
         WindowFrameBound::UnboundedFollowing => total,
     }
 }
@@ -167,24 +83,23 @@ pub fn window_of<K: KeyKind, V: Transcript<Key = K>>(
 ) -> Option<(u32, u32)>
     ensures { result ≡ window_at K.KeyKind.rank (V.Transcript.starts view.now) (V.Transcript.lines view.now) options (framed frame.now) line }
 {
-    if line < view.first() || line >= view.total() {
+    let first = view.first();
+    if line < first || line >= view.total() {
         return None;
     }
     let (start, end) = (frame.start_bound(), frame.end_bound());
     Some(match frame.units() {
-        WindowFrameUnits::Rows => (
-            start_by_rows(view, start, line),
-            end_by_rows(view, end, line),
-        ),
-        WindowFrameUnits::Range => {
-            (
-                start_by_order(view, options, start, line),
-                end_by_order(view, options, end, line),
-            )
+        WindowFrameUnits::Rows => {
+            let row = u64::from(line - first);
+            (row_edge(view, start, row), row_edge(view, end, row + 1))
         }
-        WindowFrameUnits::Groups => (
-            start_by_turns(view, start, line),
-            end_by_turns(view, end, line),
+        WindowFrameUnits::Range => (
+            order_edge(view, options, start, line, leads),
+            order_edge(view, options, end, line, reaches),
         ),
+        WindowFrameUnits::Groups => {
+            let turn = u64::from(turn_number(view, line));
+            (turn_edge(view, start, turn), turn_edge(view, end, turn + 1))
+        }
     })
 }

@@ -1,9 +1,18 @@
-ghost use Rattle.std.specs.Prelude.{◌≡◌, ◌+◌, ◌-◌, ◌<◌, ◌≤◌, cond, length};
-ghost use Rattle.search.specs.Views.{total_of, turn_at, turn_begins, RunEnd};
+ghost use Rattle.std.specs.Prelude.{◌≡◌, ◌<◌, ◌≤◌};
+ghost use Rattle.search.specs.Tests.{alike};
+ghost use Rattle.search.specs.Views.{turn_at, turn_begins, RunEnd};
 
-use crate::walks::{Alike, LineTest, Parts, count_passing, first_failing};
+use crate::order::is_same;
+use crate::walks::{count_passing, first_failing};
 use transcript::keys::KeyKind;
 use transcript::view::Transcript;
+
+// Whether line `n` is the same as the one before it.
+fn is_alike<K: KeyKind, V: Transcript<Key = K>>(view: &V, n: u32) -> bool
+    ensures { result ≡ alike K.KeyKind.rank (V.Transcript.starts view.now) (V.Transcript.lines view.now) n }
+{
+    is_same(view.line(n.saturating_sub(1)), view.line(n))
+}
 
 // The end of the run of like lines that holds line `n`; `n` itself where it is past the last line.
 pub fn run_end<K: KeyKind, V: Transcript<Key = K>>(view: &V, n: u32) -> u32
@@ -13,36 +22,26 @@ pub fn run_end<K: KeyKind, V: Transcript<Key = K>>(view: &V, n: u32) -> u32
     if n >= total {
         return n;
     }
-    first_failing(&Alike { view }, n + 1, total)
+    first_failing(n + 1, total, |j| is_alike(view, j))
 }
 
-// The turn of line `n`, counted from 0.
+// The turn of line `n`, counted from 0: how many lines past the first, up to it, differ from the one
+// before.
 pub(crate) fn turn_number<K: KeyKind, V: Transcript<Key = K>>(view: &V, n: u32) -> u32
     requires low { V.Transcript.starts view.now ≤ n }
-    requires high { n < total_of (V.Transcript.starts view.now) (V.Transcript.lines view.now) }
+    requires high { n < u32.MAX }
     ensures { result ≡ turn_at K.KeyKind.rank (V.Transcript.starts view.now) (V.Transcript.lines view.now) n }
 {
-    let total = view.total();
-    let first = view.first();
-    if n >= total {
-        return 0;
-    }
-    count_passing(&Parts { view }, first + 1, n + 1)
+    count_passing(view.first() + 1, n + 1, |j| !is_alike(view, j))
 }
 
 // The first line of turn `k`; the total where there are not so many.
 pub(crate) fn turn_start<K: KeyKind, V: Transcript<Key = K>>(view: &V, k: u64) -> u32
     ensures { result ≡ turn_begins K.KeyKind.rank (V.Transcript.starts view.now) (V.Transcript.lines view.now) k }
 {
-    let total = view.total();
-    let mut at = view.first();
-    let mut turn: u64 = 0;
-    let alike = Alike { view };
-    while at < total && turn < k {
-        at += 1;
-        if at < total && !alike.passes_at(at) {
-            turn += 1;
-        }
-    }
-    at
+    let (first, total) = (view.first(), view.total());
+    (first..total)
+        .filter(|n| *n == first || !is_alike(view, *n))
+        .nth(k as usize)
+        .unwrap_or(total)
 }

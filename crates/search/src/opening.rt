@@ -11,26 +11,13 @@ pub fn check_opening(frame: &WindowFrame, columns: u32) -> Result<(), Refusal>
     ensures { result ≡ opened (framed frame.now) columns }
 {
     match frame.units() {
-        WindowFrameUnits::Rows => Ok(()),
-        WindowFrameUnits::Range => {
-            if frame.is_free() || columns == 1 {
-                return Ok(());
-            }
-            Err(Refusal {
-                reason: Reason::RangeColumns,
-                place: 0,
-                layer: Layer::Opening,
-            })
+        WindowFrameUnits::Range if !frame.is_free() && columns != 1 => {
+            Err(Layer::Opening.refuse(Reason::RangeColumns, 0))
         }
-        WindowFrameUnits::Groups => {
-            if columns == 0 {
-                return Err(Refusal {
-                    reason: Reason::GroupsColumns,
-                    place: 0,
-                    layer: Layer::Opening,
-                });
-            }
-            Ok(())
-        }
+        WindowFrameUnits::Groups if columns == 0 => Err(Layer::Opening.refuse(
+            Reason::GroupsColumns,
+            0,
+        )),
+        _ => Ok(()),
     }
 }

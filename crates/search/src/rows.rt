@@ -1,35 +1,19 @@
-ghost use Rattle.std.specs.Prelude.{◌≡◌};
+ghost use Rattle.std.specs.Prelude.{◌≡◌, ℕ, ◌+◌};
 ghost use Rattle.meaning.specs.Rows.{row_start, row_end};
 
 use frame::bound::WindowFrameBound;
 
-// Where the ROWS window of a line starts, over `total` lines. No offset wraps.
-pub fn rows_start(bound: WindowFrameBound, line: u32, total: u32) -> u64
-    ensures { result ≡ row_start bound total line }
+// Where the ROWS window of row `row` starts, over `total` rows. The window of a row ends where that
+// of the next one starts by the same bound. No offset wraps.
+pub fn rows_edge(bound: WindowFrameBound, row: u64, total: u32) -> u64
+    ensures start { result ≡ row_start bound total row }
+    ensures end { (i : ℕ) → row ≡ i + 1 → result ≡ row_end bound total i }
 {
-    let line = line as u64;
     match bound {
         WindowFrameBound::UnboundedPreceding => 0,
-        WindowFrameBound::Preceding(n) => line.saturating_sub(n),
-        WindowFrameBound::CurrentRow => line,
-        WindowFrameBound::Following(n) => line.saturating_add(n).min(total as u64),
-        WindowFrameBound::UnboundedFollowing => total as u64,
-    }
-}
-
-// Where the ROWS window of a line ends, over `total` lines. No offset wraps.
-pub fn rows_end(bound: WindowFrameBound, line: u32, total: u32) -> u64
-    ensures { result ≡ row_end bound total line }
-{
-    let line = line as u64;
-    match bound {
-        WindowFrameBound::UnboundedPreceding => 0,
-        WindowFrameBound::Preceding(n) => { if line < n { 0 } else { line - n + 1 } }
-        WindowFrameBound::CurrentRow => line + 1,
-        WindowFrameBound::Following(n) => line
-            .saturating_add(n)
-            .saturating_add(1)
-            .min(total as u64),
-        WindowFrameBound::UnboundedFollowing => total as u64,
+        WindowFrameBound::Preceding(n) => row.saturating_sub(n),
+        WindowFrameBound::CurrentRow => row,
+        WindowFrameBound::Following(n) => row.saturating_add(n).min(u64::from(total)),
+        WindowFrameBound::UnboundedFollowing => u64::from(total),
     }
 }

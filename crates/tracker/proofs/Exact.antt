@@ -133,10 +133,6 @@ module _ (F : List Line) (o : SortOptions) (b e : WindowFrameBound) (g : Grant) 
         ∙ table_grows Line None same_line F first g.total (first + length xs) r (omega (arith, h.shown)) c.grown st.within (omega (arith, turn_rises None same_line S first g.line low, reaches_turn b S g.line (omega (arith, h.shown))))
         ∙ ap (λ ys. map (λ k. first + k) (turn_ends None same_line ys)) (sym shown_are)
 
-    -- what the rules need of the table, and how many entries that are
-    abbrev pub rule_entries : List ℕ
-    rule_entries = rules.needed F before_it first xs line
-
     module _ (k : Tracks F before_it) where
       i_fits : line - first < length xs
       i_fits = omega (arith, c.inside, first_low k)

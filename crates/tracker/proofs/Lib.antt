@@ -1,14 +1,14 @@
-pub mod Sifting
+pub mod Splitting
 pub mod Walking
 pub mod ByEnds
 pub mod Rising
 pub mod Telling
 pub mod Holding
 pub mod Finding
-pub mod Cut
+pub mod Using
+pub mod Passing
 pub mod Enough
 pub mod Answering
-pub mod Moving
 pub mod Ordering
 pub mod Exact
 pub mod Keeping

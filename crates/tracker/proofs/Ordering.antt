@@ -12,7 +12,7 @@ use Rattle.meaning.specs.Counts.{walk}
 use Rattle.meaning.specs.Lines.{Line, ranked}
 use Rattle.meaning.specs.Ranges.{before, target}
 use Rattle.search.specs.Tests.{line_at, orderly, led, reached_at}
-use Rattle.search.specs.Views.{total_of, if_below}
+use Rattle.search.specs.Views.{total_of, if_below, edge_at}
 use Rattle.search.proofs.Seeking.{ranked_length}
 use Rattle.tracker.specs.Edges.{lead_from, reach_from, start_from, end_from}
 use Rattle.sitting.specs.Rules.{refuse, disorder, order_fault}
@@ -51,6 +51,9 @@ module _ {K : Type 0} (rank : K → ℤ) where
       ∙ ap (λ k. option_map (refuse OutOfOrder) (disorder o first (ranked rank xs) k)) (sym i)
       ∙ ap (option_map (refuse OutOfOrder)) (sym (e ∙ same_disorder o first xs n))
 
+  pub all_shown : (first : ℕ) (xs : List (Option K)) → first + length xs ≡ first + length (ranked rank xs)
+  all_shown first xs = ap (λ k. first + k) (sym (ranked_length rank xs))
+
   module _ (o : SortOptions) (first : ℕ) (xs : List (Option K)) (line from : ℕ) where
     long : (p : ℕ → Bool) → walk p from (total_of first xs - from) ≡ walk p from (first + length (ranked rank xs) - from)
     long p = ap (λ k. walk p from (first + k - from)) (sym (ranked_length rank xs))
@@ -68,19 +71,17 @@ module _ {K : Type 0} (rank : K → ℤ) where
         walk_same (reached_at rank first xs o b line) _ (λ j. ap (λ y. not (before o (target o b (line_at rank first xs line)) y)) (line_ranked first xs j) ∙ ap (λ x. not (before o (target o b x) (at_line first X j))) (line_ranked first xs line)) from (total_of first xs - from)
         ∙ long (λ j. not (before o (target o b (at_line first X line)) (at_line first X j)))
 
-    pub starts_from : (b : WindowFrameBound) → (b ≡ UnboundedPreceding → ⊥) → (b ≡ UnboundedFollowing → ⊥) → walk (led rank first xs o b line) from (total_of first xs - from) ≡ start_from o first (ranked rank xs) line from b
-    starts_from UnboundedPreceding h k = absurd (h refl)
-    starts_from (Preceding n) h k = leads_from (Preceding n)
-    starts_from CurrentRow h k = leads_from CurrentRow
-    starts_from (Following n) h k = leads_from (Following n)
-    starts_from UnboundedFollowing h k = absurd (k refl)
+    -- and the edges that they are for
+    pub starts_from : (b : WindowFrameBound) → edge_at b first (total_of first xs) (walk (led rank first xs o b line) from (total_of first xs - from)) ≡ start_from o first (ranked rank xs) line from b
+    starts_from UnboundedPreceding = refl
+    starts_from (Preceding n) = leads_from (Preceding n)
+    starts_from CurrentRow = leads_from CurrentRow
+    starts_from (Following n) = leads_from (Following n)
+    starts_from UnboundedFollowing = all_shown first xs
 
-    pub ends_from : (b : WindowFrameBound) → (b ≡ UnboundedPreceding → ⊥) → (b ≡ UnboundedFollowing → ⊥) → walk (reached_at rank first xs o b line) from (total_of first xs - from) ≡ end_from o first (ranked rank xs) line from b
-    ends_from UnboundedPreceding h k = absurd (h refl)
-    ends_from (Preceding n) h k = reaches_from (Preceding n)
-    ends_from CurrentRow h k = reaches_from CurrentRow
-    ends_from (Following n) h k = reaches_from (Following n)
-    ends_from UnboundedFollowing h k = absurd (k refl)
-
-  pub all_shown : (first : ℕ) (xs : List (Option K)) → first + length xs ≡ first + length (ranked rank xs)
-  all_shown first xs = ap (λ k. first + k) (sym (ranked_length rank xs))
+    pub ends_from : (b : WindowFrameBound) → edge_at b first (total_of first xs) (walk (reached_at rank first xs o b line) from (total_of first xs - from)) ≡ end_from o first (ranked rank xs) line from b
+    ends_from UnboundedPreceding = refl
+    ends_from (Preceding n) = reaches_from (Preceding n)
+    ends_from CurrentRow = reaches_from CurrentRow
+    ends_from (Following n) = reaches_from (Following n)
+    ends_from UnboundedFollowing = all_shown first xs

@@ -1,7 +1,8 @@
 -- The steps of a walk over the ends of turns.
 use Rattle.std.proofs.Common.{◌≡◌, ℕ, ◌+◌, ◌-◌, ◌<◌, ◌≤◌, true, false, List, [], ◌∷◌, ◌++◌, map, length, take, drop, set, ℤ, None, Option, sym, refl, ap, ◌∙◌, ⊎_elim, arith}
 use Rattle.std.proofs.lemmas.Bool.{cases_lt}
-use Rattle.std.proofs.lemmas.List.{append_assoc, drop_all, drop-drop, drop-set-lt, length-append, length-take-le, take-append-drop, take_at, take_more_set}
+use Rattle.std.proofs.Math.Seq.{take-append-add}
+use Rattle.std.proofs.lemmas.List.{append-nil, append_assoc, drop_all, drop-drop, drop-set-lt, length-append, length-take-le, take-append-drop, take_at, take_more_set}
 use Rattle.meaning.specs.Lines.{Line, ranked}
 use Rattle.meaning.specs.Turns.{turn_of, end_of, turn_ends}
 use Rattle.meaning.specs.Clause.{same_line}
@@ -82,3 +83,23 @@ more_lines rank first xs p at all old now l m w =
     let z : length (ends_from rank first xs p) ≡ 0 = ap length (no_more rank first xs p u) in
     absurd (omega (arith, length-append (take at now) (ends_from rank first xs p), ap length w.front)))
     (cases_lt p (total_of first xs))
+
+-- where all entries of a part are written, they are all
+pub all_written : (all old now left : List ℕ) (at : ℕ) → at ≡ length now → length old ≡ length now → at ≤ length all → Writing all old now left at → now ≡ take at all
+all_written all old now left at whole same much w =
+    let long : length (take at all) ≡ at = length-take-le at all much in
+    write_done all old now left at (omega arith) w
+    ∙ ap (λ ys. take at all ++ ys) (drop_all (length (take at all)) old (omega arith))
+    ∙ append-nil (take at all)
+
+-- a part written behind the first k entries, up to n of them
+pub part_written : (old ends part now : List ℕ) (k n : ℕ) → k ≤ n → n ≤ length old → n - k ≤ length ends → part ≡ take (n - k) ends → take n now ≡ take k old ++ part → drop n now ≡ drop n old → now ≡ in_front (take n (take k old ++ ends)) old
+part_written old ends part now k n low high much is front behind =
+    let kept : length (take k old) ≡ k = length-take-le k old (omega arith) in
+    let size : n ≡ length (take k old) + (n - k) = omega arith in
+    let all : take n (take k old ++ ends) ≡ take k old ++ part = ap (λ i. take i (take k old ++ ends)) size ∙ take-append-add (take k old) ends (n - k) ∙ ap (λ ys. take k old ++ ys) (sym is) in
+    let long : length (take n (take k old ++ ends)) ≡ n = length-take-le n (take k old ++ ends) (omega (arith, length-append (take k old) ends)) in
+    sym (take-append-drop n now)
+    ∙ ap (λ ys. ys ++ drop n now) (front ∙ sym all)
+    ∙ ap (λ ys. take n (take k old ++ ends) ++ ys) behind
+    ∙ ap (λ i. take n (take k old ++ ends) ++ drop i old) (sym long)

@@ -5,7 +5,7 @@ use Rattle.frame.specs.declared.refusal.Refusal.{Refusal}
 use Rattle.frame.specs.declared.refusal.Layer.TheVariants as layers
 use Rattle.packed.specs.declared.view.PackedView.{PackedView}
 use Rattle.packed.specs.Fields.{Line}
-use Rattle.packed.specs.Views.{held, from_line, behind, Agrees}
+use Rattle.packed.specs.Views.{held, from_line, behind}
 use Rattle.tracker.specs.declared.slip.Slip.{Slip}
 use Rattle.tracker.specs.Rolls.{slip_fault, given_back}
 
@@ -23,6 +23,6 @@ module _ {K : Type 0} (reads : Line → Option K) (v : PackedView K) (s : Slip) 
   abbrev pub hands_on : Result (List ℕ) (Refusal × Slip)
   hands_on = given_back s packed_fault (from_line v s.to)
 
-  -- where the table agrees with the bytes, those behind the lines that go
+  -- the same as the bytes behind the lines that go
   abbrev pub HandsOnKept : Result (Bor (List ℕ)) (Refusal × Slip) → Type 0
-  HandsOnKept r = Agrees v → handed r ≡ given_back s packed_fault (behind (s.to - v.first) v.bytes.now)
+  HandsOnKept r = handed r ≡ given_back s packed_fault (behind (s.to - v.first) v.bytes.now)

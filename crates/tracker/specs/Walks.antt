@@ -1,5 +1,6 @@
 -- Walks over the ends of turns.
 use Rattle.std.specs.Prelude.{◌≡◌, ℕ, ◌+◌, ◌-◌, ◌<◌, min, max, Bool, cond, ◌||◌, leb, List, [], ◌∷◌, ◌++◌, map, length, take, drop, ℤ, None, count_by, Option, nat_le, nat_lt, slice_index_or}
+use Rattle.std.specs.Coded.{×_prop, Unit-prop, le_prop}
 use Rattle.meaning.specs.Lines.{ranked}
 use Rattle.meaning.specs.Turns.{turn_ends, last_held}
 use Rattle.meaning.specs.Clause.{same_line}
@@ -25,6 +26,10 @@ walked line entries (q ∷ es) k e = cond (goes line entries k e) (walked line e
 abbrev pub Rise : ℕ → List ℕ → Type 0
 Rise e [] = Unit {0}
 Rise e (q ∷ es) = (e < q) × Rise q es
+
+pub rise_prop : (e : ℕ) (es : List ℕ) → IsProp (Rise e es)
+rise_prop e [] = Unit-prop
+rise_prop e (q ∷ es) = ×_prop le_prop (rise_prop q es)
 
 -- the ends of the lines from line p on rise
 abbrev pub EndsRise : Type 0 → Type 0

@@ -8,7 +8,7 @@ ghost use Rattle.tracker.specs.States.{state};
 ghost use Rattle.tracker.specs.Walks.{all_ends};
 
 use crate::edges::{window_by_order, window_by_rows};
-use crate::groups::{entries_needed, find_entry, last_held};
+use crate::groups::Question;
 use crate::reading::Turns;
 use crate::standing::Standing;
 use crate::tracker::TurnTable;
@@ -46,23 +46,27 @@ pub(crate) fn ask_groups<K: KeyKind, V: Transcript<Key = K>>(
     requires behind { at ≤ live - 1 }
     ensures { Asks (framed frame.now) (V.Transcript.starts view.now) (total_of (V.Transcript.starts view.now) (V.Transcript.lines view.now)) (all_ends K.KeyKind.rank (V.Transcript.starts view.now) (V.Transcript.lines view.now) table.old live) live line table.old result table.new }
 {
-    let (first, total) = (view.first(), view.total());
-    let entry = find_entry(table, live, at, view, line);
-    let needed = entries_needed(table, live, view, line, entry, frame);
+    let question = Question {
+        view,
+        total: view.total(),
+        line,
+        used: &table[..live],
+    };
+    let entry = question.entry(at);
+    let needed = question.entries_needed(entry, frame);
+    let from = question.last_held();
     if needed > table.len() {
         return Err(needed);
     }
-    let from = last_held(table, live, first, total);
     write_on(table, view, from, needed);
     let turns = Turns {
-        table,
-        entries: needed,
-        first,
-        total,
+        ends: &table[..needed],
+        first: view.first(),
+        total: view.total(),
     };
     Ok(Answered {
-        start: turns.start_of(frame.start_bound(), entry),
-        end: turns.end_of(frame.end_bound(), entry),
+        start: turns.edge(frame.start_bound(), entry),
+        end: turns.edge(frame.end_bound(), entry + 1),
         live: needed,
         at: entry,
     })

@@ -4,11 +4,11 @@ ghost use Rattle.sitting.specs.Calls.{Window, FirstWindow, Filing};
 ghost use Rattle.tracker.specs.Slips.{by_numbers};
 ghost use Rattle.tracker.specs.Trackers.{state_of, entry_at};
 
-use crate::checks::{check, check_filing, refused};
+use crate::checks::{check, check_filing};
 use crate::slip::Slip;
 use crate::standing::{Grant, Standing};
 use crate::tracker::Tracker;
-use frame::refusal::{Reason, Refusal};
+use frame::refusal::{Layer, Reason, Refusal};
 use transcript::keys::KeyKind;
 use transcript::view::Transcript;
 
@@ -26,25 +26,24 @@ impl<'a, K: KeyKind> Tracker<'a, K> {
         let standing = self.standing;
         check(&standing, view, line)?;
         let total = view.total();
-        match self.table.find(&standing, view, line) {
-            Ok(found) => {
-                self.standing = Standing {
-                    frame: standing.frame,
-                    options: standing.options,
-                    last: Grant {
-                        line,
-                        start: found.start,
-                        end: found.end,
-                        total,
-                    },
-                    filed: standing.filed,
-                    live: found.live,
-                    at: found.at,
-                };
-                Ok((found.start, found.end))
+        let found = match self.table.find(&standing, view, line) {
+            Ok(found) => found,
+            Err(needed) => {
+                return Err(Layer::Tracker.refuse(Reason::TurnTableShort, needed as u64));
             }
-            Err(needed) => Err(refused(Reason::TurnTableShort, needed as u64)),
-        }
+        };
+        self.standing = Standing {
+            last: Grant {
+                line,
+                start: found.start,
+                end: found.end,
+                total,
+            },
+            live: found.live,
+            at: found.at,
+            ..standing
+        };
+        Ok((found.start, found.end))
     }
 
     // Files away the lines below `n`, and hands out a slip for it, to be met by whoever holds them.
@@ -58,12 +57,10 @@ impl<'a, K: KeyKind> Tracker<'a, K> {
             .table
             .keep_above(standing.frame.units(), standing.live, n);
         self.standing = Standing {
-            frame: standing.frame,
-            options: standing.options,
-            last: standing.last,
             filed: n,
             live,
             at: 0,
+            ..standing
         };
         Ok(Slip::new(standing.filed, n))
     }
@@ -79,10 +76,6 @@ impl<'a, K: KeyKind> Tracker<'a, K> {
     pub fn entry(&self, k: usize) -> Option<u64>
         ensures { result ≡ entry_at (state_of self.now).table k }
     {
-        if k < self.entries() {
-            Some(self.table.ends[k])
-        } else {
-            None
-        }
+        self.table.ends.get(k).copied()
     }
 }

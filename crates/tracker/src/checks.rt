@@ -1,7 +1,7 @@
 ghost use Rattle.std.specs.Prelude.{◌≡◌};
 ghost use Rattle.frame.specs.Frames.{framed};
 ghost use Rattle.meaning.specs.Lines.{ranked};
-ghost use Rattle.sitting.specs.Rules.{refuse, order_fault, fault, file_fault};
+ghost use Rattle.sitting.specs.Rules.{order_fault, fault, file_fault};
 ghost use Rattle.tracker.specs.Checks.{allowed};
 ghost use Rattle.tracker.specs.States.{grant_of};
 
@@ -12,16 +12,6 @@ use search::sorted::first_disorder;
 use transcript::keys::KeyKind;
 use transcript::view::Transcript;
 
-pub(crate) fn refused(reason: Reason, place: u64) -> Refusal
-    ensures { result ≡ refuse reason place }
-{
-    Refusal {
-        reason,
-        place,
-        layer: Layer::Tracker,
-    }
-}
-
 // Whether the lines that are new to the tracker are in order, where the frame asks for that.
 fn check_order<K: KeyKind, V: Transcript<Key = K>>(
     standing: &Standing,
@@ -29,14 +19,12 @@ fn check_order<K: KeyKind, V: Transcript<Key = K>>(
 ) -> Result<(), Refusal>
     ensures { result ≡ allowed (order_fault (framed standing.now.frame).units standing.now.options (V.Transcript.starts view.now) (ranked K.KeyKind.rank (V.Transcript.lines view.now)) standing.now.last.total) }
 {
-    match standing.frame.units() {
-        WindowFrameUnits::Range => {
-            match first_disorder(view, standing.options, standing.last.total.max(1)) {
-                Some(line) => Err(refused(Reason::OutOfOrder, line as u64)),
-                None => Ok(()),
-            }
-        }
-        _ => Ok(()),
+    let WindowFrameUnits::Range = standing.frame.units() else {
+        return Ok(());
+    };
+    match first_disorder(view, standing.options, standing.last.total.max(1)) {
+        Some(line) => Err(Layer::Tracker.refuse(Reason::OutOfOrder, u64::from(line))),
+        None => Ok(()),
     }
 }
 
@@ -50,16 +38,16 @@ pub(crate) fn check<K: KeyKind, V: Transcript<Key = K>>(
 {
     let total = view.total();
     if view.first() != standing.filed {
-        return Err(refused(Reason::OtherFirstLine, standing.filed as u64));
+        return Err(Layer::Tracker.refuse(Reason::OtherFirstLine, u64::from(standing.filed)));
     }
     if total < standing.last.total {
-        return Err(refused(Reason::TotalFell, standing.last.total as u64));
+        return Err(Layer::Tracker.refuse(Reason::TotalFell, u64::from(standing.last.total)));
     }
     if line >= total {
-        return Err(refused(Reason::LineNotShown, line as u64));
+        return Err(Layer::Tracker.refuse(Reason::LineNotShown, u64::from(line)));
     }
     if line < standing.last.line {
-        return Err(refused(Reason::LineBeforeLast, standing.last.line as u64));
+        return Err(Layer::Tracker.refuse(Reason::LineBeforeLast, u64::from(standing.last.line)));
     }
     check_order(standing, view)
 }
@@ -70,10 +58,10 @@ pub(crate) fn check_filing(standing: &Standing, n: u32) -> Result<(), Refusal>
 {
     let limit = standing.last.limit();
     if n > limit {
-        return Err(refused(Reason::FilingAboveLimit, limit as u64));
+        return Err(Layer::Tracker.refuse(Reason::FilingAboveLimit, u64::from(limit)));
     }
     if n < standing.filed {
-        return Err(refused(Reason::FilingBelowFiled, standing.filed as u64));
+        return Err(Layer::Tracker.refuse(Reason::FilingBelowFiled, u64::from(standing.filed)));
     }
     Ok(())
 }

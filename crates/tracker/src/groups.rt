@@ -1,9 +1,9 @@
-ghost use Rattle.std.specs.Prelude.{◌≡◌, ℕ, ◌+◌, ◌-◌, ◌<◌, ◌≤◌, min, length, take, slice_index};
+ghost use Rattle.std.specs.Prelude.{◌≡◌, ℕ, ◌-◌, ◌^◌, ◌<◌, ◌≤◌, min, length, slice_index};
 ghost use Rattle.meaning.specs.Turns.{last_held};
 ghost use Rattle.search.specs.Views.{total_of};
 ghost use Rattle.frame.specs.Frames.{framed};
-ghost use Rattle.tracker.specs.Ends.{Held, entry_of, far, needed};
-ghost use Rattle.tracker.specs.Walks.{all_ends};
+ghost use Rattle.tracker.specs.Ends.{entry_of, far, needed};
+ghost use Rattle.tracker.specs.Walks.{Rise, rise_prop, all_ends};
 
 use crate::table::entry_past;
 use crate::walk::{Reach, walk_on};
@@ -12,49 +12,19 @@ use frame::frame::WindowFrame;
 use transcript::keys::KeyKind;
 use transcript::view::Transcript;
 
-// Where a walk behind the entries in use begins: at the last line that they hold, for its turn may
-// have gone on.
-pub(crate) fn last_held(table: &[u64], live: usize, first: u32, total: u32) -> Reach
-    requires room { live ≤ length table.now }
-    requires held { Held first total (take live table.now) }
-    ensures entries { result.entries ≡ live - 1 }
-    ensures end { result.end ≡ last_held first (take live table.now) }
-{
-    if live == 0 {
-        return Reach {
-            entries: 0,
-            end: first,
-        };
-    }
-    Reach {
-        entries: live - 1,
-        end: (table[live - 1] - 1) as u32,
-    }
-}
-
-// The entry of the turn of `line`. No entry before `at` lies past the line.
-pub(crate) fn find_entry<K: KeyKind, V: Transcript<Key = K>>(
-    table: &[u64],
-    live: usize,
-    at: usize,
-    view: &V,
-    line: u32,
-) -> usize
-    requires room { live ≤ length table.now }
-    requires held { Held (V.Transcript.starts view.now) (total_of (V.Transcript.starts view.now) (V.Transcript.lines view.now)) (take live table.now) }
-    requires low { V.Transcript.starts view.now ≤ line }
-    requires high { line < total_of (V.Transcript.starts view.now) (V.Transcript.lines view.now) }
-    requires passed { (k : ℕ) → k < at → slice_index table.now k ≤ line }
-    requires behind { at ≤ live - 1 }
-    ensures { result ≡ entry_of (all_ends K.KeyKind.rank (V.Transcript.starts view.now) (V.Transcript.lines view.now) table.now live) line }
-{
-    let total = view.total();
-    let from = last_held(table, live, view.first(), total);
-    let reach = walk_on(view, from, line, live);
-    if reach.entries > live {
-        return reach.entries - 1;
-    }
-    entry_past(table, at, from.entries, line)
+// A question under GROUPS: a line that a view shows, and the entries of the turn table that are in use.
+#[derive(Drop)]
+pub(crate) struct Question<'a, 't, V: Transcript> {
+    pub(crate) view: &'a V,
+    pub(crate) total: u32,
+    pub(crate) line: u32,
+    pub(crate) used: &'t [u64],
+    ghost all: { total ≡ total_of (V.Transcript.starts view.now) (V.Transcript.lines view.now) },
+    ghost fits: { total < 2 ^ 32 },
+    ghost low: { V.Transcript.starts view.now ≤ line },
+    ghost high: { line < total },
+    ghost rises: { Rise (V.Transcript.starts view.now) used.now } by { rise_prop (V.Transcript.starts view.now) used.now },
+    ghost below: { last_held (V.Transcript.starts view.now) used.now < total },
 }
 
 // How many entries reach as far as a bound does, if there are so many turns.
@@ -67,24 +37,51 @@ fn furthest(bound: WindowFrameBound, entry: usize) -> usize
     }
 }
 
-// How many entries the question needs.
-pub(crate) fn entries_needed<K: KeyKind, V: Transcript<Key = K>>(
-    table: &[u64],
-    live: usize,
-    view: &V,
-    line: u32,
-    entry: usize,
-    frame: &WindowFrame,
-) -> usize
-    requires room { live ≤ length table.now }
-    requires held { Held (V.Transcript.starts view.now) (total_of (V.Transcript.starts view.now) (V.Transcript.lines view.now)) (take live table.now) }
-    requires low { V.Transcript.starts view.now ≤ line }
-    requires high { line < total_of (V.Transcript.starts view.now) (V.Transcript.lines view.now) }
-    requires found { entry ≡ entry_of (all_ends K.KeyKind.rank (V.Transcript.starts view.now) (V.Transcript.lines view.now) table.now live) line }
-    ensures { result ≡ needed (framed frame.now).start (framed frame.now).end (all_ends K.KeyKind.rank (V.Transcript.starts view.now) (V.Transcript.lines view.now) table.now live) live entry }
-{
-    let from = last_held(table, live, view.first(), view.total());
-    let start = furthest(frame.start_bound(), entry);
-    let end = furthest(frame.end_bound(), entry);
-    walk_on(view, from, line, live.max(start).max(end)).entries
+impl<'a, 't, K: KeyKind, V: Transcript<Key = K>> Question<'a, 't, V> {
+    // Where a walk behind the entries in use begins: at the last line that they hold, for its turn may
+    // have gone on.
+    pub(crate) fn last_held(&self) -> Reach
+        ensures entries { result.entries ≡ length self.now.used.now - 1 }
+        ensures end { result.end ≡ last_held (V.Transcript.starts self.now.view.now) self.now.used.now }
+        ensures low { V.Transcript.starts self.now.view.now ≤ result.end }
+        ensures high { result.end < self.now.total }
+        ensures few { result.entries ≤ result.end }
+    {
+        match self.used {
+            [] => Reach {
+                entries: 0,
+                end: self.view.first(),
+            },
+            [before @ .., last] => Reach {
+                entries: before.len(),
+                end: (*last - 1) as u32,
+            },
+        }
+    }
+
+    // The entry of the line's turn. No entry before `at` lies past the line.
+    pub(crate) fn entry(&self, at: usize) -> usize
+        requires passed { (k : ℕ) → k < at → slice_index self.now.used.now k ≤ self.now.line }
+        requires behind { at ≤ length self.now.used.now - 1 }
+        ensures { result ≡ entry_of (all_ends K.KeyKind.rank (V.Transcript.starts self.now.view.now) (V.Transcript.lines self.now.view.now) self.now.used.now (length self.now.used.now)) self.now.line }
+    {
+        let live = self.used.len();
+        let from = self.last_held();
+        let reach = walk_on(self.view, from, self.line, live);
+        if reach.entries > live {
+            return reach.entries - 1;
+        }
+        entry_past(&self.used[..from.entries], at, self.line)
+    }
+
+    // How many entries the question needs, where its line's turn is this entry.
+    pub(crate) fn entries_needed(&self, entry: usize, frame: &WindowFrame) -> usize
+        requires { entry ≡ entry_of (all_ends K.KeyKind.rank (V.Transcript.starts self.now.view.now) (V.Transcript.lines self.now.view.now) self.now.used.now (length self.now.used.now)) self.now.line }
+        ensures { result ≡ needed (framed frame.now).start (framed frame.now).end (all_ends K.KeyKind.rank (V.Transcript.starts self.now.view.now) (V.Transcript.lines self.now.view.now) self.now.used.now (length self.now.used.now)) (length self.now.used.now) entry }
+    {
+        let start = furthest(frame.start_bound(), entry);
+        let end = furthest(frame.end_bound(), entry);
+        let wanted = self.used.len().max(start).max(end);
+        walk_on(self.view, self.last_held(), self.line, wanted).entries
+    }
 }

@@ -13,7 +13,6 @@ pub mod opening;
 mod reading;
 pub mod roll;
 pub mod slip;
-mod slots;
 mod standing;
 mod table;
 pub mod tracker;

@@ -18,11 +18,7 @@ pub(crate) fn check_packed<'a, 'p, K: PackedKey>(
 {
     let first = view.first();
     if from != first || to < from || to > view.total() {
-        return Err(Refusal {
-            reason: Reason::OtherSlip,
-            place: first as u64,
-            layer: Layer::Transcript,
-        });
+        return Err(Layer::Transcript.refuse(Reason::OtherSlip, u64::from(first)));
     }
     Ok(())
 }

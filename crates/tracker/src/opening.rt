@@ -39,7 +39,7 @@ pub fn open<K: KeyKind>(frame: &WindowFrame, options: SortOptions) -> Result<Ope
 pub fn open_clause<K: KeyKind>(text: &[u8], options: SortOptions) -> Result<Opening<K>, Refusal>
     ensures { told (opening result) ≡ read_opening text.now options K.KeyKind.columns }
 {
-    let frame = read_clause(text).frame?;
+    let frame = read_clause(text)?;
     open(&frame, options)
 }
 

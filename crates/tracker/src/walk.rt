@@ -36,6 +36,7 @@ pub(crate) fn walk_on<K: KeyKind, V: Transcript<Key = K>>(
     ensures { (result.entries, result.end) ≡ walked line entries (ends_from K.KeyKind.rank (V.Transcript.starts view.now) (V.Transcript.lines view.now) from.end) from.entries from.end }
 {
     let total = view.total();
+    // How far a step goes is known only once it is made: no range and no slice stands for the walk.
     let mut reach = from;
     while reach.end < total && reach.goes_on(line, entries) {
         reach = Reach {
@@ -60,8 +61,8 @@ pub(crate) fn write_on<K: KeyKind, V: Transcript<Key = K>>(
     ensures { table.new ≡ in_front (take entries (take from.entries table.old ++ ends_from K.KeyKind.rank (V.Transcript.starts view.now) (V.Transcript.lines view.now) from.end)) table.old }
 {
     let mut end = from.end;
-    for at in from.entries..entries {
+    for slot in &mut table[from.entries..entries] {
         end = run_end(view, end);
-        table[at] = end as u64;
+        *slot = end as u64;
     }
 }

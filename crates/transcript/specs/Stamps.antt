@@ -1,11 +1,11 @@
 -- What a view over an array of stamps means.
-use Rattle.std.specs.Prelude.{ℕ, ◌-◌, List, take, Ok, Err, Option, Result}
+use Rattle.std.specs.Prelude.{ℕ, List, Ok, Err, Option, Result}
 use Rattle.frame.specs.declared.refusal.Refusal.{Refusal}
 use Rattle.transcript.specs.declared.stamps.StampView.{StampView}
 
--- the stamps that fit below the limit of line numbers: all of them, in a view that `new` has made
+-- the lines that a view holds: its stamps
 abbrev pub lines_of : {K : Type 0} → StampView K → List (Option K)
-lines_of v = take (4294967295 - v.first) v.stamps.now
+lines_of v = v.stamps.now
 
 -- a view by its first line number and its lines, or a refusal
 abbrev pub meaning : {K : Type 0} → Result (StampView K) Refusal → Result (ℕ × List (Option K)) Refusal

@@ -2,5 +2,6 @@
 #![tactic(auto)]
 
 pub mod keys;
+pub mod show;
 pub mod stamps;
 pub mod view;

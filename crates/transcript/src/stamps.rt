@@ -1,35 +1,48 @@
-ghost use Rattle.std.specs.Prelude.{◌≡◌};
-ghost use Rattle.transcript.specs.Lines.{viewed};
-ghost use Rattle.transcript.specs.Stamps.{lines_of, meaning};
+ghost use Rattle.std.specs.Prelude.{◌≡◌, ◌+◌, ◌≤◌, ⊤, length};
 
 use crate::keys::KeyKind;
 use crate::view::Transcript;
 use frame::refusal::{Layer, Reason, Refusal};
+use std::alloc::AllocError;
 
 // A view over an array of stamps: each a key or unmarked.
-#[derive(Clone, Copy)]
 pub struct StampView<'a, K> {
     first: u32,
     stamps: &'a [Option<K>],
+    ghost fits: { first + length stamps.now ≤ 4294967295 },
 }
 
+// By hand: no derive copies a struct with a ghost field over a parameter.
+impl<'a, K> Clone for StampView<'a, K> {
+    ghost is_clone = { λ x y. y ≡ x };
+
+    ghost is_infallible = { λ _. ⊤ };
+
+    fn clone(&self) -> Result<StampView<'a, K>, AllocError> {
+        Ok(*self)
+    }
+}
+
+impl<'a, K> Copy for StampView<'a, K> {}
+
 impl<'a, K: KeyKind> StampView<'a, K> {
+    ghost use Rattle.transcript.specs.Lines.{viewed};
+    ghost use Rattle.transcript.specs.Stamps.{meaning};
+
     // The stamps as lines from `first` on, unless their total would pass the largest line number.
     pub fn new(first: u32, stamps: &'a [Option<K>]) -> Result<StampView<'a, K>, Refusal>
         ensures { meaning result ≡ viewed first stamps.now }
     {
-        if stamps.len() > (4294967295 - first) as usize {
-            return Err(Refusal {
-                reason: Reason::TooManyLines,
-                place: 0,
-                layer: Layer::Transcript,
-            });
+        if stamps.len() > (u32::MAX - first) as usize {
+            return Err(Layer::Transcript.refuse(Reason::TooManyLines, 0));
         }
         Ok(StampView { first, stamps })
     }
 }
 
 impl<'a, K: KeyKind> Transcript for StampView<'a, K> {
+    ghost use Rattle.transcript.specs.Stamps.{lines_of};
+
     type Key = K;
 
     ghost starts = { λ v. v.first };
@@ -41,24 +54,11 @@ impl<'a, K: KeyKind> Transcript for StampView<'a, K> {
     }
 
     fn total(&self) -> u32 {
-        let room = 4294967295 - self.first;
-        let held = self.stamps.len();
-        if held >= room as usize {
-            return 4294967295;
-        }
-        self.first + held as u32
+        self.first + self.stamps.len() as u32
     }
 
     fn line(&self, n: u32) -> Option<K> {
-        // No line has the number 4294967295: a total is at most that.
-        if n < self.first || n == 4294967295 {
-            return None;
-        }
-        let i = (n - self.first) as usize;
-        if i < self.stamps.len() {
-            self.stamps[i]
-        } else {
-            None
-        }
+        let i = n.checked_sub(self.first)?;
+        *self.stamps.get(i as usize)?
     }
 }

@@ -1,7 +1,7 @@
 ghost use Rattle.std.specs.Prelude.{◌≡◌};
-ghost use Rattle.words.specs.Letters.{lowered, spelled, keyword};
+ghost use Rattle.words.specs.Letters.{lowered, spelled, name_of, keyword};
 
-#[derive(Clone, Copy)]
+#[derive(Clone, Copy, Debug, PartialEq, Eq)]
 pub enum Keyword {
     Rows,
     Range,
@@ -15,7 +15,8 @@ pub enum Keyword {
     Following,
 }
 
-// The small letter of a letter, and any other character as it is.
+// The small letter of a letter, and any other character as it is. In this project letters are matched
+// one by one, both cases in one arm.
 fn lower(c: char) -> char
     ensures { result ≡ lowered c }
 {
@@ -50,7 +51,8 @@ fn lower(c: char) -> char
     }
 }
 
-// Whether a word spells a name, which is given in small letters.
+// Whether a word spells a name, which is given in small letters. By recursion: of `eq` over the two
+// iterators the check does not find the answer.
 fn spells(word: &[u8], name: &[u8]) -> bool
     ensures { result ≡ spelled word.now name.now }
 {
@@ -69,31 +71,42 @@ fn spells(word: &[u8], name: &[u8]) -> bool
     }
 }
 
+const KEYWORDS: [Keyword; 10] = [
+    Keyword::Rows,
+    Keyword::Range,
+    Keyword::Groups,
+    Keyword::Between,
+    Keyword::And,
+    Keyword::Unbounded,
+    Keyword::Current,
+    Keyword::Row,
+    Keyword::Preceding,
+    Keyword::Following,
+];
+
+impl Keyword {
+    // Its small letters.
+    fn name(self) -> &'static [u8]
+        ensures { result.now ≡ name_of self }
+    {
+        match self {
+            Keyword::Rows => b"rows",
+            Keyword::Range => b"range",
+            Keyword::Groups => b"groups",
+            Keyword::Between => b"between",
+            Keyword::And => b"and",
+            Keyword::Unbounded => b"unbounded",
+            Keyword::Current => b"current",
+            Keyword::Row => b"row",
+            Keyword::Preceding => b"preceding",
+            Keyword::Following => b"following",
+        }
+    }
+}
+
 // The keyword that a word spells, if any.
 pub(crate) fn keyword_of(word: &[u8]) -> Option<Keyword>
     ensures { result ≡ keyword word.now }
 {
-    if spells(word, b"rows") {
-        Some(Keyword::Rows)
-    } else if spells(word, b"range") {
-        Some(Keyword::Range)
-    } else if spells(word, b"groups") {
-        Some(Keyword::Groups)
-    } else if spells(word, b"between") {
-        Some(Keyword::Between)
-    } else if spells(word, b"and") {
-        Some(Keyword::And)
-    } else if spells(word, b"unbounded") {
-        Some(Keyword::Unbounded)
-    } else if spells(word, b"current") {
-        Some(Keyword::Current)
-    } else if spells(word, b"row") {
-        Some(Keyword::Row)
-    } else if spells(word, b"preceding") {
-        Some(Keyword::Preceding)
-    } else if spells(word, b"following") {
-        Some(Keyword::Following)
-    } else {
-        None
-    }
+    KEYWORDS.iter().copied().find(|k| spells(word, k.name()))
 }

@@ -7,7 +7,7 @@ ghost use Rattle.words.specs.Faults.{both, fault};
 use crate::word::Span;
 
 // What is wrong with one word.
-#[derive(Clone, Copy)]
+#[derive(Clone, Copy, Debug, PartialEq, Eq)]
 pub enum WordError<'a> {
     BadNumber(Span<'a>),
 }
@@ -42,9 +42,6 @@ impl<'a> Span<'a> {
         ensures value { both (λ n. n) fault result ≡ numeral_or (placed self.entry) }
         ensures digits { WrittenBy (placed self.entry).text (result_ok result) }
     {
-        match number(self.text) {
-            Some(n) => Ok(n),
-            None => Err(WordError::BadNumber(self)),
-        }
+        number(self.text).ok_or(WordError::BadNumber(self))
     }
 }

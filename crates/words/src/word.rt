@@ -4,14 +4,14 @@ ghost use Rattle.words.specs.Tokens.{placed, token, span_of};
 use crate::letters::Keyword;
 
 // A part of the clause, and the place where it begins.
-#[derive(Clone, Copy)]
+#[derive(Clone, Copy, Debug, PartialEq, Eq)]
 pub struct Span<'a> {
     pub text: &'a [u8],
     pub place: usize,
 }
 
 // The next word of a clause, by what it can be.
-#[derive(Clone, Copy)]
+#[derive(Clone, Copy, Debug, PartialEq, Eq)]
 pub enum Word<'a> {
     Key(Keyword, Span<'a>),
     // it begins with a digit

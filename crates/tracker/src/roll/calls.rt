@@ -1,24 +1,13 @@
 ghost use Rattle.std.specs.Prelude.{◌≡◌, ◌+◌, ◌≤◌, length};
 ghost use Rattle.transcript.specs.Stamps.{meaning};
-ghost use Rattle.tracker.specs.Rolls.{refuse, held_of, adding, added, add_slots, meet_fault, given_back, kept_from, kept_slots, met, met_slots, rolled};
+ghost use Rattle.tracker.specs.Rolls.{held_of, adding, added, add_slots, meet_fault, given_back, kept_from, kept_slots, met, met_slots, rolled};
 ghost use Rattle.tracker.specs.Checks.{allowed};
 
 use super::Roll;
 use crate::slip::Slip;
-use crate::slots::move_to_front;
 use frame::refusal::{Layer, Reason, Refusal};
 use transcript::keys::KeyKind;
 use transcript::stamps::StampView;
-
-fn refused(reason: Reason, place: usize) -> Refusal
-    ensures { result ≡ refuse reason place }
-{
-    Refusal {
-        reason,
-        place: place as u64,
-        layer: Layer::Roll,
-    }
-}
 
 impl Roll {
     // An empty roll, whose first line will be this one.
@@ -48,11 +37,11 @@ impl Roll {
     {
         let total = self.first + self.count;
         if total == 4294967295 {
-            return Err(refused(Reason::TooManyLines, 0));
+            return Err(Layer::Roll.refuse(Reason::TooManyLines, 0));
         }
         let room = array.len();
         if self.count as usize >= room {
-            return Err(refused(Reason::ArrayShort, room));
+            return Err(Layer::Roll.refuse(Reason::ArrayShort, room as u64));
         }
         array[self.count as usize] = stamp;
         self.count += 1;
@@ -64,10 +53,10 @@ impl Roll {
         ensures { result ≡ allowed (meet_fault (held_of self.now) room (record { from = from; to = to })) }
     {
         if self.count as usize > room {
-            return Err(refused(Reason::ArrayShort, room));
+            return Err(Layer::Roll.refuse(Reason::ArrayShort, room as u64));
         }
         if from != self.first || to < from || to > self.first + self.count {
-            return Err(refused(Reason::OtherSlip, self.first as usize));
+            return Err(Layer::Roll.refuse(Reason::OtherSlip, u64::from(self.first)));
         }
         Ok(())
     }
@@ -82,7 +71,7 @@ impl Roll {
     {
         let gone = to - self.first;
         let kept = self.count - gone;
-        move_to_front(array, gone as usize, kept as usize);
+        array.copy_within(gone as usize..self.count as usize, 0);
         self.first = to;
         self.count = kept;
     }
@@ -114,7 +103,7 @@ impl Roll {
     {
         let room = array.len();
         if self.count as usize > room {
-            return Err(refused(Reason::ArrayShort, room));
+            return Err(Layer::Roll.refuse(Reason::ArrayShort, room as u64));
         }
         StampView::new(self.first, &array[0..self.count as usize])
     }

@@ -3,7 +3,7 @@ ghost use Rattle.std.specs.Prelude.{pos};
 use crate::keys::KeyKind;
 
 // Milliseconds since the start.
-#[derive(Clone, Copy)]
+#[derive(Clone, Copy, Debug, PartialEq, Eq, PartialOrd, Ord)]
 pub struct Elapsed(pub u64);
 
 impl KeyKind for Elapsed {
@@ -16,14 +16,14 @@ impl KeyKind for Elapsed {
     }
 
     fn same(self, other: Elapsed) -> bool {
-        self.0 == other.0
+        self == other
     }
 
     fn before(self, other: Elapsed) -> bool {
-        self.0 < other.0
+        self < other
     }
 
     fn within(self, other: Elapsed, n: u64) -> bool {
-        other.0 <= self.0 || other.0 - self.0 <= n
+        other.0.saturating_sub(self.0) <= n
     }
 }

@@ -1,7 +1,7 @@
 use crate::keys::KeyKind;
 
 // Milliseconds before or after a mark.
-#[derive(Clone, Copy)]
+#[derive(Clone, Copy, Debug, PartialEq, Eq, PartialOrd, Ord)]
 pub struct Mark(pub i64);
 
 impl KeyKind for Mark {
@@ -14,14 +14,14 @@ impl KeyKind for Mark {
     }
 
     fn same(self, other: Mark) -> bool {
-        self.0 == other.0
+        self == other
     }
 
     fn before(self, other: Mark) -> bool {
-        self.0 < other.0
+        self < other
     }
 
     fn within(self, other: Mark, n: u64) -> bool {
-        other.0 as i128 - self.0 as i128 <= n as i128
+        i128::from(other.0) - i128::from(self.0) <= i128::from(n)
     }
 }

@@ -3,7 +3,7 @@ ghost use Rattle.std.specs.Prelude.{pos};
 use crate::keys::KeyKind;
 
 // A key of one value only.
-#[derive(Clone, Copy)]
+#[derive(Clone, Copy, Debug, PartialEq, Eq, PartialOrd, Ord)]
 pub struct Plain;
 
 impl KeyKind for Plain {

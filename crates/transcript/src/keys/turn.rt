@@ -3,7 +3,7 @@ ghost use Rattle.std.specs.Prelude.{◌≡◌, ◌+◌, ◌*◌, ◌^◌, pos};
 use crate::keys::KeyKind;
 
 // Who speaks, and to which question.
-#[derive(Clone, Copy)]
+#[derive(Clone, Copy, Debug, PartialEq, Eq, PartialOrd, Ord)]
 pub struct Turn {
     pub speaker: u8,
     pub question: u32,
@@ -14,7 +14,7 @@ impl Turn {
     fn number(self) -> u64
         ensures { result ≡ self.speaker * 2 ^ 32 + self.question }
     {
-        self.speaker as u64 * 4294967296 + self.question as u64
+        u64::from(self.speaker) * 4294967296 + u64::from(self.question)
     }
 }
 
@@ -28,15 +28,14 @@ impl KeyKind for Turn {
     }
 
     fn same(self, other: Turn) -> bool {
-        self.number() == other.number()
+        self == other
     }
 
     fn before(self, other: Turn) -> bool {
-        self.number() < other.number()
+        self < other
     }
 
     fn within(self, other: Turn, n: u64) -> bool {
-        let (a, b) = (self.number(), other.number());
-        b <= a || b - a <= n
+        other.number().saturating_sub(self.number()) <= n
     }
 }

@@ -9,34 +9,14 @@ use crate::cursor::Words;
 use crate::letters::keyword_of;
 use crate::word::{Span, Word};
 
-// Whether a byte is a space, or whether it is none.
-fn is_like(b: u8, space: bool) -> bool
-    ensures { result ≡ like space b }
-{
-    if space { b == b' ' } else { b != b' ' }
-}
-
-// The place after the run of spaces, or of other bytes, that begins at `from`.
-fn run_end(text: &[u8], from: usize, space: bool) -> usize
-    requires { from ≤ length text.now }
-    ensures value { result ≡ from + prefix_len (like space) (drop from text.now) }
-    ensures bound { result ≤ length text.now }
-{
-    let mut at = from;
-    while at < text.len() && is_like(text[at], space) {
-        at += 1;
-    }
-    at
-}
-
 // The next word from `from` on, empty at the end of the text if there is none, and the place after it.
 fn next_span<'a>(text: &'a [u8], from: usize) -> (Span<'a>, usize)
     requires { from ≤ length text.now }
     ensures next { Next (length text.now) (words_from text.now from) (placed result.0) (words_from text.now result.1) }
     ensures bound { result.1 ≤ length text.now }
 {
-    let start = run_end(text, from, true);
-    let end = run_end(text, start, false);
+    let start = from + text[from..].iter().take_while(|b| **b == b' ').count();
+    let end = start + text[start..].iter().take_while(|b| **b != b' ').count();
     (
         Span {
             text: &text[start..end],

@@ -1,12 +1,7 @@
-use Rattle.std.proofs.Common.{◌≡◌, ◌+◌, ◌-◌, ◌<◌, ◌≤◌, length, sym, ◌∙◌, arith}
-use Rattle.std.proofs.lemmas.List.{set-get_or}
+use Rattle.std.proofs.Common.{◌≡◌, ◌+◌, ◌-◌, ◌<◌, length, ◌∙◌, arith}
 use Rattle.packed.proofs.Tails.{line_tail}
-use Rattle.packed.proofs.Fills.{half_more, half_stops, half_all, near, ok_more}
+use Rattle.packed.proofs.Fills.{half_more, near, ok_more}
 use Rattle.packed.proofs.scan.fill.Goals as goal
-
-pub returns-in-Err : goal.returns-in-Err
-returns-in-Err c =
-    set-get_or c.loop-slot.table c.loop-slot.slot-index 0 ∙ sym (half_stops c.loop-slot.table c.loop-slot.slot-index _ _ _ c.in-Err.ensures) ∙ c.loop-slot.invariant.2
 
 pub overflow_cast-slot : goal.overflow_cast-slot
 overflow_cast-slot c = omega (arith, near c.loop-slot.table c.loop-slot.slot-index _ _ _ c.in-Ok.ensures c.loop-slot.invariant.1)
@@ -20,8 +15,3 @@ loop-slot-preserved c =
       rw at (ok_more c.loop-slot.table c.loop-slot.slot-index _ _ _ _ lt c.in-Ok.ensures c.loop-slot.invariant.1),
       rw at (half_more c.loop-slot.table c.loop-slot.slot-index _ _ _ lt c.in-Ok.ensures ∙ c.loop-slot.invariant.2),
     )
-
-pub returns : goal.returns
-returns c =
-    let all : length c.loop-slot.table ≤ c.loop-slot.slot-index = omega arith in
-    sym (half_all c.loop-slot.table c.loop-slot.slot-index _ _ all) ∙ c.loop-slot.invariant.2

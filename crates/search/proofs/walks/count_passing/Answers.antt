@@ -1,19 +1,15 @@
-use Rattle.std.proofs.Common.{◌≡◌, ◌-◌, sym, ap, ◌∙◌, arith}
+use Rattle.std.proofs.Common.{rules, None, ◌-◌, subst, ap, ◌∙◌, sym, arith}
 use Rattle.meaning.specs.Counts.{how_many_from}
-use Rattle.meaning.proofs.Walking.{from_yes, from_no}
+use Rattle.search.proofs.Filtering.{Asks, filtered}
 use Rattle.search.proofs.walks.count_passing.Goals as goal
-use Rattle.search.proofs.walks.count_passing.Goals.{then-passes_at, else-passes_at}
 
-pub loop-at-preserved : goal.loop-at-preserved
-loop-at-preserved g c =
-    let p = g.T.LineTest.passes c.args.test.now in
-    let low = c.loop-at.auto.at in
-    elim c.if-passes_at.branch [
-      | then-passes_at w ↦ (omega (arith, w.count-is), omega arith, omega (arith, w.count-is, from_yes p c.args.from c.loop-at.at low (sym c.passes_at.ensures ∙ w.if-passes_at.true)))
-      | else-passes_at w ↦ (omega (arith, w.count-is), omega arith, omega (arith, w.count-is, from_no p c.args.from c.loop-at.at low (sym c.passes_at.ensures ∙ w.if-passes_at.false)))
-    ]
-
-pub returns : goal.returns
-returns g c =
-    let e : c.loop-at.at - c.args.from ≡ c.args.total - c.args.from = omega arith in
-    c.loop-at.invariant.2 ∙ ap (how_many_from (g.T.LineTest.passes c.args.test.now) c.args.from) e
+pub returns-clause-counted : goal.returns-clause-counted
+returns-clause-counted g c p h =
+    let from = c.args.from in
+    let total = c.args.total in
+    let ran = c.count.ensures.ran in
+    let source = c.filter.ensures.source in
+    let first = ap (λ r. r.start) source in
+    ran.2
+    ∙ filtered _ p from total ran.0 None c.filter.result ran.1.1.0 ran.1.0 (subst (Asks _ p from total) (sym c.filter.ensures.closure) (λ x b q k. search (rules, h))) (omega (arith, first)) (ap (λ r. r.end) source) ran.1.1.1 ran.1.1.2
+    ∙ ap (λ r. how_many_from p r (total - r)) first

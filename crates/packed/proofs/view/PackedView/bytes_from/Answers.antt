@@ -10,4 +10,4 @@ returns g c =
     let e = take_rest v.bytes.now c.place_of-place.result
     ∙ ap (λ (p : ℕ). drop p v.bytes.now) c.place_of-place.ensures.value
     ∙ ap (λ (k : ℕ). drop (place_of v k) v.bytes.now) c.saturating_sub.ensures in
-    record { table = e; kept = λ a. e ∙ handed v c.args.n a }
+    record { table = e; kept = e ∙ handed v c.args.n }

@@ -1,20 +1,14 @@
-use Rattle.std.proofs.Common.{◌∙◌, inl, inr, arith}
-use Rattle.packed.specs.Views.{held}
-use Rattle.transcript.proofs.Held.{outside}
-use Rattle.packed.proofs.Shows.{held_length, read_at}
+use Rattle.std.proofs.Common.{◌≤◌, length, rules}
+use Rattle.packed.proofs.Shows.{entry_within}
 use Rattle.packed.proofs.view.PackedViewTranscript.line.Goals as goal
 
-pub returns-then-n-self : goal.returns-then-n-self
-returns-then-n-self g c =
-    let v = c.args.self.now in
-    let count = held_length g.K.PackedKey.reads v in
-    elim c.then-n-self.either [
-      | inl h ↦ outside v.first (held g.K.PackedKey.reads v) c.args.n (inl h)
-      | inr h ↦ outside v.first (held g.K.PackedKey.reads v) c.args.n (inr (h.0, omega (arith, h.1)))
-    ]
+pub slice_bounds-read-count : goal.slice_bounds-read-count
+slice_bounds-read-count g c =
+    let found = c.in_ok-place.ensures.lookup.3 in
+    entry_within c.args.self.now _ _ found.0 (found.1 0)
 
-pub returns-in-Ok : goal.returns-in-Ok
-returns-in-Ok g c = c.key_of.ensures ∙ read_at g.K.PackedKey.reads c.args.self.now c.args.n c.place_of-place.result c.if-n-self.false (omega arith) c.place_of-place.ensures.value _ c.in-Ok.ensures
-
-pub returns-in-Err : goal.returns-in-Err
-returns-in-Err g c = read_at g.K.PackedKey.reads c.args.self.now c.args.n c.place_of-place.result c.if-n-self.false (omega arith) c.place_of-place.ensures.value _ c.in-Err.ensures
+pub slice_bounds-read-start : goal.slice_bounds-read-start
+slice_bounds-read-start g c =
+    let found = c.in_ok-place.ensures.lookup.3 in
+    let h : c.in_ok-place.field-0.now ≤ length c.args.self.now.bytes.now = entry_within c.args.self.now _ _ found.0 (found.1 0) in
+    search rules

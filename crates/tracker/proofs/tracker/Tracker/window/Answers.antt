@@ -30,22 +30,22 @@ find-requires g c =
     let none = (answered_ok _ tt tt (sym c.in_ok-check.ensures)).0 in
     is_ready g.K.KeyKind.rank t.standing t.table.ends.now (sound_of t) (g.V.Transcript.starts c.args.view.now) (g.V.Transcript.lines c.args.view.now) c.args.line none
 
-pub invariant_of-self : goal.invariant_of-self
-invariant_of-self g c =
+pub invariant_of-self-2 : goal.invariant_of-self-2
+invariant_of-self-2 g c =
     let t = c.args.self.now in
     let none = (answered_ok _ tt tt (sym c.in_ok-check.ensures)).0 in
     let h = (is_kept g.K.KeyKind.rank t.standing t.table.ends.now (sound_of t) (g.V.Transcript.starts c.args.view.now) (g.V.Transcript.lines c.args.view.now) c.args.line none c.total-total.result c.total-total.ensures c.in-Ok.found c.find.new.self.ends.now c.in-Ok.ensures.found).sound in
     record { kept = h.kept; shown = h.shown; rowed = h.rowed; room = h.room; past = h.past; within = h.within; rising = h.rising; passed = h.passed; behind = h.behind }
 
-pub invariant_of-self-in-Err-1 : goal.invariant_of-self-in-Err-1
-invariant_of-self-in-Err-1 g c =
+pub invariant_of-self : goal.invariant_of-self
+invariant_of-self g c =
     let t = c.args.self.now in
     let none = (answered_ok _ tt tt (sym c.in_ok-check.ensures)).0 in
     let h = still_sound g.K.KeyKind.rank t.standing t.table.ends.now (sound_of t) (g.V.Transcript.starts c.args.view.now) (g.V.Transcript.lines c.args.view.now) c.args.line none c.in-Err.needed c.find.new.self.ends.now c.in-Err.ensures.found in
     record { kept = h.kept; shown = h.shown; rowed = h.rowed; room = h.room; past = h.past; within = h.within; rising = h.rising; passed = h.passed; behind = h.behind }
 
-pub returns-in-Ok : goal.returns-in-Ok
-returns-in-Ok g c =
+pub returns : goal.returns
+returns g c =
     let t = c.args.self.now in
     let none = (answered_ok _ tt tt (sym c.in_ok-check.ensures)).0 in
     let w = is_granted g.K.KeyKind.rank t.standing t.table.ends.now (sound_of t) (g.V.Transcript.starts c.args.view.now) (g.V.Transcript.lines c.args.view.now) c.args.line none c.total-total.result c.total-total.ensures c.in-Ok.found c.find.new.self.ends.now c.in-Ok.ensures.found in
@@ -60,5 +60,5 @@ returns-in-Err g c =
     let xs = g.V.Transcript.lines c.args.view.now in
     let none = (answered_ok _ tt tt (sym c.in_ok-check.ensures)).0 in
     let P : Result (ℕ × ℕ) Refusal → Type 0 = λ r. Window (state s table) first (ranked g.K.KeyKind.rank xs) c.args.line r (state s c.find.new.self.ends.now) in
-    let w : P (Err c.refused.result) = subst P (sym (ap Err c.refused.ensures)) (is_short g.K.KeyKind.rank s table (sound_of t) first xs c.args.line none c.in-Err.needed c.find.new.self.ends.now c.in-Err.ensures.found) in
+    let w : P (Err c.refuse.result) = subst P (sym (ap Err c.refuse.ensures)) (is_short g.K.KeyKind.rank s table (sound_of t) first xs c.args.line none c.in-Err.needed c.find.new.self.ends.now c.in-Err.ensures.found) in
     record { window = w; begun = first_window _ _ _ _ _ _ w; lent = c.find.ensures.lent }

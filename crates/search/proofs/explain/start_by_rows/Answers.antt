@@ -1,8 +1,0 @@
-use Rattle.meaning.specs.Rows.{row_start}
-use Rattle.search.proofs.Explaining.{by_place}
-use Rattle.search.proofs.explain.start_by_rows.Goals as goal
-
-pub returns : goal.returns
-returns g c =
-    let v = c.args.view.now in
-    by_place g.K.KeyKind.rank (g.V.Transcript.starts v) (g.V.Transcript.lines v) _ _ c.args.line _ c.first-first.ensures c.total.ensures (row_start c.args.bound) c.rows_start.ensures
