@@ -26,12 +26,19 @@ fn walked<V: Transcript<Key = Elapsed>>(view: &V) -> (u64, u64) {
         )
 }
 
-fn timed_scan(rt: &HostRuntime, bytes: &[u8], places: &mut [u32]) -> anyhow::Result<()> {
+// What a step gives, once its time has been told.
+fn timed<T: Drop, F: FnOnce() -> T>(rt: &HostRuntime, name: &str, step: F) -> anyhow::Result<T>
+    requires { F.IsAlwaysCallable step }
+{
     let start = Instant::now(rt)?;
-    let found = scan(places, bytes);
+    let given = step();
     let took = start.elapsed(rt)?.as_nanos();
-    eprintln!(rt; "scan: {took} ns")?;
-    match found {
+    eprintln!(rt; "{name}: {took} ns")?;
+    Ok(given)
+}
+
+fn scanned(rt: &HostRuntime, bytes: &[u8], places: &mut [u32]) -> anyhow::Result<()> {
+    match timed(rt, "scan", || scan(places, bytes))? {
         Ok(n) => {
             let sum = checksum(places);
             println!(rt; "scan {n} checksum {sum}")?;
@@ -41,17 +48,15 @@ fn timed_scan(rt: &HostRuntime, bytes: &[u8], places: &mut [u32]) -> anyhow::Res
     Ok(())
 }
 
-fn timed_view(rt: &HostRuntime, bytes: &[u8], places: &[u32]) -> anyhow::Result<()> {
-    let start = Instant::now(rt)?;
-    let made: Result<PackedView<Elapsed>, Refusal> = PackedView::new(0, bytes, places);
-    let took = start.elapsed(rt)?.as_nanos();
-    eprintln!(rt; "view made: {took} ns")?;
+fn viewed(rt: &HostRuntime, bytes: &[u8], places: &[u32]) -> anyhow::Result<()> {
+    let made: Result<PackedView<Elapsed>, Refusal> = timed(
+        rt,
+        "view made",
+        || PackedView::new(0, bytes, places),
+    )?;
     match made {
         Ok(view) => {
-            let start = Instant::now(rt)?;
-            let (marked, sum) = walked(&view);
-            let took = start.elapsed(rt)?.as_nanos();
-            eprintln!(rt; "view walked: {took} ns")?;
+            let (marked, sum) = timed(rt, "view walked", || walked(&view))?;
             println!(rt; "view marked {marked} checksum {sum}")?;
         }
         Err(_) => println!(rt; "view refused")?,
@@ -66,6 +71,6 @@ pub fn packed(rt: &HostRuntime, size: usize) -> anyhow::Result<()> {
     let len = bytes.len();
     println!(rt; "bytes {len}")?;
     let mut places: Vec<u32> = vec![in heap; 0; count]?;
-    timed_scan(rt, bytes.as_slice(), places.as_mut_slice())?;
-    timed_view(rt, bytes.as_slice(), places.as_slice())
+    scanned(rt, bytes.as_slice(), places.as_mut_slice())?;
+    viewed(rt, bytes.as_slice(), places.as_slice())
 }

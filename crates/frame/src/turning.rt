@@ -21,9 +21,9 @@ impl WindowFrameBound {
     pub(crate) fn is_free(self) -> bool
         ensures { result ≡ free_bound self }
     {
-        match self {
-            WindowFrameBound::Preceding(_) | WindowFrameBound::Following(_) => false,
-            _ => true,
-        }
+        !matches!(
+            self,
+            WindowFrameBound::Preceding(_) | WindowFrameBound::Following(_)
+        )
     }
 }

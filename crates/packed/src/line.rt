@@ -18,8 +18,8 @@ pub struct PackedLine<'a> {
     pub text: Option<&'a [u8]>,
 }
 
-// A field's reader names its bytes one by one, and all that stands behind them: so fields are read in this
-// project. It keeps one reader for each width.
+// A field of one byte. In this project a field's bytes are named one by one, in a slice pattern, so each
+// width has a reader of its own.
 fn speaker(bytes: &[u8]) -> Result<(u8, &[u8]), LineFault>
     ensures { seen (λ s. s) result ≡ number 1 bytes.now }
 {

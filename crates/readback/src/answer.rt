@@ -22,7 +22,7 @@ fn yes_no(b: bool) -> &'static str
 fn printable(b: u8) -> char
     ensures { result ≡ printed b }
 {
-    if b >= 33 && b <= 126 { b as char } else { '?' }
+    if b.is_ascii_graphic() { b as char } else { '?' }
 }
 
 // A word as it is shown.
@@ -101,10 +101,6 @@ impl fmt::Display for Trouble {
         match self {
             Trouble::Refused(refusal) => write!(f, "{refusal}"),
             Trouble::Script(mistake) => write!(f, "error {mistake}"),
-            Trouble::Memory => {
-                let mistake = Mistake::NoMemory;
-                write!(f, "error {mistake}")
-            }
         }
     }
 }

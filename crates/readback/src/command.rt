@@ -38,7 +38,6 @@ pub enum Mistake {
 // Why a command has no answer of its own.
 #[derive(Clone, Copy, Debug, PartialEq, Eq)]
 pub enum Trouble {
-    Memory,
     Script(Mistake),
     Refused(Refusal),
 }
@@ -51,13 +50,13 @@ impl From<Refusal> for Trouble {
 
 impl From<AllocError> for Trouble {
     fn from(_e: AllocError) -> Trouble {
-        Trouble::Memory
+        Trouble::Script(Mistake::NoMemory)
     }
 }
 
 impl<T: Drop> From<AllocFailed<T>> for Trouble {
     fn from(_e: AllocFailed<T>) -> Trouble {
-        Trouble::Memory
+        Trouble::Script(Mistake::NoMemory)
     }
 }
 

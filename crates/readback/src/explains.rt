@@ -35,7 +35,8 @@ pub fn read_options(args: &mut Args) -> Result<SortOptions, Mistake> {
     })
 }
 
-// The keys that are left.
+// The keys that are left. Places are read by a loop of their own: a function that is generic in the key is
+// not covered as an argument.
 pub fn read_keys<K: ScriptKey>(heap: Global, args: &mut Args) -> Result<Vec<Option<K>>, Trouble> {
     let mut keys: Vec<Option<K>> = Vec::new(heap);
     for word in args {

@@ -72,13 +72,7 @@ impl ScriptKey for Elapsed {
 // A signed number: a minus in front of its digits, if it is below 0.
 fn signed(word: &[u8]) -> Option<i64> {
     match word {
-        [b'-', digits @ ..] => {
-            let n = number_of(digits)?;
-            if n > 9223372036854775808 {
-                return None;
-            }
-            i64::try_from(-i128::from(n)).ok()
-        }
+        [b'-', digits @ ..] => i64::try_from(-i128::from(number_of(digits)?)).ok(),
         _ => i64::try_from(number_of(word)?).ok(),
     }
 }

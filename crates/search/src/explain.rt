@@ -18,7 +18,7 @@ use meaning::options::SortOptions;
 use transcript::keys::KeyKind;
 use transcript::view::Transcript;
 
-// Where the ROWS window of a row starts; it ends where that of the next row starts.
+// Where the ROWS window of a row starts; by the same bound that of the row before ends there.
 fn row_edge<K: KeyKind, V: Transcript<Key = K>>(view: &V, bound: WindowFrameBound, row: u64) -> u32
     requires { row ≤ length (V.Transcript.lines view.now) }
     ensures start { result ≡ V.Transcript.starts view.now + rows_start bound (ranked K.KeyKind.rank (V.Transcript.lines view.now)) row }
@@ -54,7 +54,7 @@ fn order_edge<
     }
 }
 
-// Where the GROUPS window of a turn's lines starts; it ends where that of the next turn starts.
+// Where the GROUPS window of a turn's lines starts; by the same bound that of the turn before ends there.
 fn turn_edge<K: KeyKind, V: Transcript<Key = K>>(
     view: &V,
     bound: WindowFrameBound,

@@ -40,7 +40,8 @@ pub fn is_before<K: KeyKind>(options: SortOptions, x: Option<K>, y: Option<K>) -
     }
 }
 
-// Whether, of two keys as they rise, the one asked of leads the target of a bound from the other.
+// Whether key `a` is ordered before the target of a bound from key `b`, where `a` and `b` are the two keys as
+// they rise.
 fn key_leads<K: KeyKind>(bound: WindowFrameBound, a: K, b: K) -> bool
     ensures rising { result ≡ key_leads false bound (K.KeyKind.rank a) (K.KeyKind.rank b) }
     ensures falling { result ≡ key_leads true bound (K.KeyKind.rank b) (K.KeyKind.rank a) }

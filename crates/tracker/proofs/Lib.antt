@@ -7,6 +7,7 @@ pub mod Holding
 pub mod Finding
 pub mod Using
 pub mod Passing
+pub mod Faulting
 pub mod Enough
 pub mod Answering
 pub mod Ordering

@@ -46,9 +46,9 @@ pub(crate) fn ask_groups<K: KeyKind, V: Transcript<Key = K>>(
     requires behind { at ≤ live - 1 }
     ensures { Asks (framed frame.now) (V.Transcript.starts view.now) (total_of (V.Transcript.starts view.now) (V.Transcript.lines view.now)) (all_ends K.KeyKind.rank (V.Transcript.starts view.now) (V.Transcript.lines view.now) table.old live) live line table.old result table.new }
 {
+    let total = view.total();
     let question = Question {
         view,
-        total: view.total(),
         line,
         used: &table[..live],
     };
@@ -62,7 +62,7 @@ pub(crate) fn ask_groups<K: KeyKind, V: Transcript<Key = K>>(
     let turns = Turns {
         ends: &table[..needed],
         first: view.first(),
-        total: view.total(),
+        total,
     };
     Ok(Answered {
         start: turns.edge(frame.start_bound(), entry),

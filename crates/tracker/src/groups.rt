@@ -16,15 +16,13 @@ use transcript::view::Transcript;
 #[derive(Drop)]
 pub(crate) struct Question<'a, 't, V: Transcript> {
     pub(crate) view: &'a V,
-    pub(crate) total: u32,
     pub(crate) line: u32,
     pub(crate) used: &'t [u64],
-    ghost all: { total ≡ total_of (V.Transcript.starts view.now) (V.Transcript.lines view.now) },
-    ghost fits: { total < 2 ^ 32 },
+    ghost fits: { total_of (V.Transcript.starts view.now) (V.Transcript.lines view.now) < 2 ^ 32 },
     ghost low: { V.Transcript.starts view.now ≤ line },
-    ghost high: { line < total },
+    ghost high: { line < total_of (V.Transcript.starts view.now) (V.Transcript.lines view.now) },
     ghost rises: { Rise (V.Transcript.starts view.now) used.now } by { rise_prop (V.Transcript.starts view.now) used.now },
-    ghost below: { last_held (V.Transcript.starts view.now) used.now < total },
+    ghost below: { last_held (V.Transcript.starts view.now) used.now < total_of (V.Transcript.starts view.now) (V.Transcript.lines view.now) },
 }
 
 // How many entries reach as far as a bound does, if there are so many turns.
@@ -44,7 +42,7 @@ impl<'a, 't, K: KeyKind, V: Transcript<Key = K>> Question<'a, 't, V> {
         ensures entries { result.entries ≡ length self.now.used.now - 1 }
         ensures end { result.end ≡ last_held (V.Transcript.starts self.now.view.now) self.now.used.now }
         ensures low { V.Transcript.starts self.now.view.now ≤ result.end }
-        ensures high { result.end < self.now.total }
+        ensures high { result.end < total_of (V.Transcript.starts self.now.view.now) (V.Transcript.lines self.now.view.now) }
         ensures few { result.entries ≤ result.end }
     {
         match self.used {

@@ -24,7 +24,7 @@ impl<'a> Turns<'a> {
         }
     }
 
-    // Where the window of turn `g` starts, and where that of the turn before it ends.
+    // Where the window of turn `g` starts; by the same bound that of the turn before ends there.
     pub(crate) fn edge(self, bound: WindowFrameBound, g: usize) -> u32
         ensures start { result ≡ start_by bound self.entry.first self.entry.total self.entry.ends.now g }
         ensures end { (k : ℕ) → g ≡ k + 1 → result ≡ end_by bound self.entry.first self.entry.total self.entry.ends.now k }

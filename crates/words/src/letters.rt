@@ -57,16 +57,10 @@ fn spells(word: &[u8], name: &[u8]) -> bool
     ensures { result ≡ spelled word.now name.now }
 {
     match word {
-        [] => name.len() == 0,
+        [] => name.is_empty(),
         [b, bs @ ..] => match name {
             [] => false,
-            [k, ks @ ..] => {
-                if lower(*b as char) == *k as char {
-                    spells(bs, ks)
-                } else {
-                    false
-                }
-            }
+            [k, ks @ ..] => lower(*b as char) == *k as char && spells(bs, ks),
         },
     }
 }

@@ -26,7 +26,7 @@ fn with_digit(n: u64, c: char) -> Option<u64>
 fn number(text: &[u8]) -> Option<u64>
     ensures { result ≡ numeral text.now }
 {
-    if text.len() < 1 || text.len() > 20 {
+    if text.is_empty() || text.len() > 20 {
         return None;
     }
     let mut n: u64 = 0;

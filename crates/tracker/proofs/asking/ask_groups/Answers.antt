@@ -43,14 +43,14 @@ invariant_of-turns g c =
     let at = entry_is rank first xs table live line q.room _ c.entry-entry.ensures in
     let n = needed_is rank first xs table live line q.room b e _ _ c.entries_needed-needed.ensures at in
     let w = c.write_on.ensures ∙ as_written rank first xs table live _ _ _ _ n (c.last_held-from.ensures.entries ∙ ap (λ i. i - 1) u) c.last_held-from.ensures.end in
-    let total = c.total-2.ensures in
+    let total = c.total-total.ensures in
     let t = there rank first xs table live q.room q.held line q.low q.high b e in
     let m = not_more rank first xs table live q.room q.held line q.low q.high in
     let k = c.entries_needed-needed.result in
     let new = c.write_on.new.table in
     let long : length (take k new) ≡ k = length-take-le k new (omega (arith, c.if-needed-table.false, c.write_on.auto.table)) in
     record {
-      few = omega (arith, long, n, t, m, total, c.total-2.type_inv);
+      few = omega (arith, long, n, t, m, total, c.total-total.type_inv);
       within = λ j h. omega (arith, total, get_or-take k new j 0 (omega (arith, long)), ap (λ ys. get_or ys j 0) w, written_small rank first xs table live q.room q.held line q.low q.high b e j (omega (arith, long, n)));
     }
 
@@ -71,8 +71,8 @@ returns g c =
     let w = c.write_on.ensures ∙ as_written rank first xs table live _ _ _ _ n (c.last_held-from.ensures.entries ∙ ap (λ i. i - 1) u) c.last_held-from.ensures.end in
     record {
       fits = omega (arith, n, c.if-needed-table.false);
-      start = c.edge.ensures.start ∙ as_read start_by _ _ _ _ _ _ _ _ _ _ _ _ c.start_bound.ensures c.first.ensures c.total-2.ensures n w at ∙ start_read rank first xs table live q.room q.held line q.low q.high b e;
-      end = c.edge-2.ensures.end _ refl ∙ as_read end_by _ _ _ _ _ _ _ _ _ _ _ _ c.end_bound.ensures c.first.ensures c.total-2.ensures n w at ∙ end_read rank first xs table live q.room q.held line q.low q.high b e;
+      start = c.edge.ensures.start ∙ as_read start_by _ _ _ _ _ _ _ _ _ _ _ _ c.start_bound.ensures c.first.ensures c.total-total.ensures n w at ∙ start_read rank first xs table live q.room q.held line q.low q.high b e;
+      end = c.edge-2.ensures.end _ refl ∙ as_read end_by _ _ _ _ _ _ _ _ _ _ _ _ c.end_bound.ensures c.first.ensures c.total-total.ensures n w at ∙ end_read rank first xs table live q.room q.held line q.low q.high b e;
       live = n;
       at = at;
       table = w;

@@ -1,4 +1,4 @@
-use Rattle.std.proofs.Common.{sym, ◌∙◌, arith}
+use Rattle.std.proofs.Common.{◌≤◌, length, sym, ◌∙◌, arith, rules}
 use Rattle.words.proofs.Decimal.{step, stop, done}
 use Rattle.words.proofs.number.number.Goals as goal
 
@@ -12,4 +12,6 @@ loop-b-preserved c =
     (s.0 ∙ c.loop-b.invariant.0, s.1 ∙ c.loop-b.invariant.1, s.2)
 
 pub returns : goal.returns
-returns c = done c.loop-b.n c.loop-b.b-index c.args.text.now (omega arith) (omega arith) (omega arith) (omega arith) c.loop-b.invariant.0 c.loop-b.invariant.1
+returns c =
+    let some : 1 ≤ length c.args.text.now = search rules in
+    done c.loop-b.n c.loop-b.b-index c.args.text.now (omega arith) some (omega arith) (omega arith) c.loop-b.invariant.0 c.loop-b.invariant.1
