@@ -29,6 +29,9 @@ abbrev pub clause_line : Result Frame Refused → List ℕ
 clause_line (Ok f) = frame_line f
 clause_line (Err e) = refused_line e
 
+abbrev pub window_line : ℕ → ℕ → List ℕ
+window_line start end = codes "window " ++ (decimal start ++ (codes " " ++ decimal end))
+
 abbrev pub mistake_text : Mistake → List ℕ
 mistake_text UnknownCommand = codes "unknown command"
 mistake_text TooManyWords = codes "too many words"

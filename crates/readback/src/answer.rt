@@ -2,7 +2,7 @@ ghost use Rattle.std.specs.Prelude.{◌≡◌, [], map, IfOk, Some, string_bytes
 ghost use Rattle.frame.specs.Faults.{answer as read_as, told_clause};
 ghost use Rattle.frame.specs.Frames.{framed};
 ghost use Rattle.frame.specs.Refusals.{refusal_of};
-ghost use Rattle.readback.specs.Lines.{yes_no, printed, frame_line, refusal_line, refused_line, clause_line, mistake_text, error_line};
+ghost use Rattle.readback.specs.Lines.{yes_no, printed, frame_line, refusal_line, refused_line, clause_line, window_line, mistake_text, error_line};
 
 use crate::command::{Mistake, Trouble};
 use crate::keys::ScriptKey;
@@ -70,6 +70,13 @@ pub fn clause_line(
         Ok(frame) => frame_line(heap, frame),
         Err(refused) => refused_line(heap, refused),
     }
+}
+
+// A window that was asked for.
+pub fn window_line(heap: Global, start: u32, end: u32) -> Result<String, AllocError>
+    ensures { IfOk result (λ s. string_bytes s ≡ window_line start end) }
+{
+    format!(in heap; "window {start} {end}")
 }
 
 impl fmt::Display for Mistake {

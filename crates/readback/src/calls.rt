@@ -1,3 +1,4 @@
+use crate::answer::window_line;
 use crate::args::Args;
 use crate::asks::Call;
 use crate::command::Trouble;
@@ -35,7 +36,7 @@ fn ask_line<K: ScriptKey>(
     let keys: Vec<Option<K>> = read_keys(heap, args)?;
     let view: StampView<K> = StampView::new(first, keys.as_slice())?;
     let (start, end) = tracker.window(&view, line)?;
-    Ok(format!(in heap; "window {start} {end}")?)
+    Ok(window_line(heap, start, end)?)
 }
 
 // The answer to `table`.

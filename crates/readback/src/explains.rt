@@ -1,3 +1,4 @@
+use crate::answer::window_line;
 use crate::args::Args;
 use crate::command::{Mistake, Trouble};
 use crate::keys::{Kind, ScriptKey, read_key};
@@ -35,8 +36,8 @@ pub fn read_options(args: &mut Args) -> Result<SortOptions, Mistake> {
     })
 }
 
-// The keys that are left. Places are read by a loop of their own: a function that is generic in the key is
-// not covered as an argument.
+// The keys that are left. Places are read by a loop of their own: given `read_key` a method over both is not
+// covered, since what that gives names a type that its argument doesn't.
 pub fn read_keys<K: ScriptKey>(heap: Global, args: &mut Args) -> Result<Vec<Option<K>>, Trouble> {
     let mut keys: Vec<Option<K>> = Vec::new(heap);
     for word in args {
@@ -59,7 +60,7 @@ fn window_over<K: ScriptKey>(
             return Err(Trouble::Script(Mistake::OutOfOrder));
         }
     }
-    Ok(format!(in heap; "window {start} {end}")?)
+    Ok(window_line(heap, start, end)?)
 }
 
 fn explain_by<K: ScriptKey>(

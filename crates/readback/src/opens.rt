@@ -20,7 +20,8 @@ pub struct Start<K, H> {
     pub holder: H,
 }
 
-// By key kind and holder. An enum, since no function may hand out a boxed trait object.
+// By key kind and holder. An enum, since the gate refuses a function that makes a trait object and hands it
+// out.
 #[derive(Drop)]
 pub enum Request {
     Plain(Start<Plain, RollHolder<Plain>>),

@@ -41,3 +41,23 @@ pub fn meet_packed<'a, 'p, K: PackedKey>(
         Err(refusal) => Err((refusal, slip)),
     }
 }
+
+#[cfg(test)]
+mod tests {
+    use super::*;
+    use std::test::Fail;
+    use transcript::keys::turn::Turn;
+
+    #[test]
+    fn a_slip_of_other_lines_is_refused(rt: HostRuntime) -> Result<(), Fail> {
+        let view: PackedView<Turn> = PackedView::new(5, &[], &[])?;
+        if let Err((refusal, slip)) = meet_packed(&view, Slip::new(5, 6)) {
+            slip.spend();
+            assert_eq!(rt; refusal.reason.number(), 27);
+            assert_eq!(rt; refusal.place, 5);
+            assert_eq!(rt; refusal.layer.number(), 5);
+            return Ok(());
+        }
+        Err(Fail::new("met a slip of other lines"))
+    }
+}

@@ -108,3 +108,24 @@ impl Roll {
         StampView::new(self.first, &array[0..self.count as usize])
     }
 }
+
+#[cfg(test)]
+mod tests {
+    use super::*;
+    use std::test::Fail;
+    use transcript::keys::elapsed::Elapsed;
+
+    #[test]
+    fn a_slip_of_other_lines_is_refused(rt: HostRuntime) -> Result<(), Fail> {
+        let mut array: [Option<Elapsed>; 1] = [None];
+        let mut roll = Roll::starting(5);
+        if let Err((refusal, slip)) = roll.meet(&mut array, Slip::new(4, 5)) {
+            slip.spend();
+            assert_eq!(rt; refusal.reason.number(), 27);
+            assert_eq!(rt; refusal.place, 5);
+            assert_eq!(rt; refusal.layer.number(), 7);
+            return Ok(());
+        }
+        Err(Fail::new("met a slip of other lines"))
+    }
+}
