@@ -1,28 +1,19 @@
 use crate::answer::window_line;
 use crate::args::Args;
 use crate::asks::Call;
-use crate::command::Trouble;
+use crate::command::{Mistake, Trouble};
 use crate::explains::read_keys;
 use crate::holders::Holder;
 use crate::keys::ScriptKey;
-use frame::refusal::Refusal;
 use std::alloc::Global;
 use tracker::tracker::Tracker;
 use transcript::stamps::StampView;
 
-// The answer to `window N` or `file N`: a name, and the two numbers that are told of N.
-fn pair_line<F: FnOnce(u32) -> Result<(u32, u32), Refusal>>(
-    heap: Global,
-    name: &str,
-    args: &mut Args,
-    told: F,
-) -> Result<String, Trouble>
-    requires { F.IsAlwaysCallable told }
-{
+// The number that `window` and `file` have behind them.
+fn only_number(args: &mut Args) -> Result<u32, Mistake> {
     let n = args.number32()?;
     args.end()?;
-    let (from, to) = told(n)?;
-    Ok(format!(in heap; "{name} {from} {to}")?)
+    Ok(n)
 }
 
 // The answer to `ask N FIRST KEY KEY ..`.
@@ -63,14 +54,15 @@ pub fn call_line<K: ScriptKey, H: Holder<Key = K>>(
 ) -> Result<String, Trouble> {
     let mut args = Args::new(args);
     match call {
-        Call::Window => pair_line(
-            heap,
-            "window",
-            &mut args,
-            |line| holder.window(tracker, line),
-        ),
+        Call::Window => {
+            let (start, end) = holder.window(tracker, only_number(&mut args)?)?;
+            Ok(window_line(heap, start, end)?)
+        }
         Call::Ask => ask_line(heap, tracker, &mut args),
-        Call::File => pair_line(heap, "slip", &mut args, |n| holder.file(tracker, n)),
+        Call::File => {
+            let (from, to) = holder.file(tracker, only_number(&mut args)?)?;
+            Ok(format!(in heap; "slip {from} {to}")?)
+        }
         _ => holder.own(heap, call, &mut args),
     }
 }
