@@ -1,5 +1,6 @@
 """Scripts of sittings for `readback`, in the domain that a judge shares with it."""
 
+import itertools
 from dataclasses import dataclass
 
 UP, UF, CURRENT = "UNBOUNDED PRECEDING", "UNBOUNDED FOLLOWING", "CURRENT ROW"
@@ -25,10 +26,10 @@ def bounds(offsets, unbounded):
 
 @dataclass(frozen=True)
 class Domain:
-    """What a judge takes. `edges` are offsets beside the small ones, of frames that may have them."""
+    """What a judge takes."""
 
     sql: bool = False  # no frame starts behind its end, as SQL has it
-    wide: bool = False  # keys at the edges of their types
+    wide: bool = False  # keys at the edges of their types, and offsets of 2^62
     below: bool = False  # targets below 0 of keys that have no sign
 
     def takes(self, start, end):
@@ -112,8 +113,10 @@ def random_frame(r, domain):
         units = r.choice(["ROWS", "RANGE", "GROUPS"])
         start = r.choice(bounds(small, UP))
         end = r.choice(bounds(small, UF))
-        if domain.wide and units == "RANGE" and r.random() < 0.2:
-            start = f"{2**62 + r.randint(0, 9)} PRECEDING"
+        if domain.wide and r.random() < 0.2:
+            far = 2**62 + r.randint(0, 9)
+            start = r.choice([start, f"{far} PRECEDING", f"{far} FOLLOWING"])
+            end = r.choice([end, f"{far} PRECEDING", f"{far} FOLLOWING"])
         if domain.takes(start, end):
             return units, start, end
 
@@ -140,22 +143,26 @@ def random_sitting(r, domain):
     return script + [f"window {n}" for n in range(line, count)]
 
 
-def every_short_sitting(domain, kinds=("elapsed",), longest=4):
+def few_keys(kind, frame, domain):
+    if kind == "plain":
+        return [1]
+    if kind == "turn":
+        return [None, (0, 0), (0, 1), (1, 0)]
+    far = max(offset_of(b) for b in frame[1:])
+    low = -2 if kind == "mark" else 0 if domain.below else far
+    return [None, low, low + 1, low + 3]
+
+
+def every_short_sitting(domain, longest=4):
     """All transcripts of a few keys, all frames of small offsets; each line asked as it comes, and at the end."""
     for frame in frames(domain, [0, 1, 2]):
-        for kind in kinds_for(frame):
-            if kind not in kinds:
-                continue
-            low = 0 if domain.below else max(offset_of(b) for b in frame[1:])
-            some = [None, low, low + 1, low + 3]
-            orders = ["asc", "desc"] if frame[0] == "RANGE" else ["asc"]
-            sides = ["first", "last"] if frame[0] == "RANGE" else ["last"]
-            for order in orders:
-                for unmarked in sides:
-                    for keys in transcripts(some, longest):
-                        if frame[0] == "RANGE" and keys != in_order(keys, order, unmarked):
-                            continue
-                        yield from short_sittings(frame, kind, order, unmarked, keys)
+        ranged = frame[0] == "RANGE"
+        for kind, order, unmarked in itertools.product(
+            kinds_for(frame), ["asc", "desc"] if ranged else ["asc"], ["first", "last"] if ranged else ["last"]
+        ):
+            for keys in transcripts(few_keys(kind, frame, domain), longest):
+                if not ranged or keys == in_order(keys, order, unmarked):
+                    yield from short_sittings(frame, kind, order, unmarked, keys)
 
 
 def transcripts(some, longest):
