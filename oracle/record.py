@@ -6,6 +6,7 @@ Records so many sittings of each judge. A line of the sample is one of
     open KIND FALLING FIRST LINES CLAUSE    KIND: 0 plain, 1 elapsed, 2 mark, 3 turn; FALLING, FIRST: 1 if so
     line KEY                                a number: a mark below 0 as 2^64 and it, a turn as 2^32 * speaker + question
     window LINE START END                   the judge's window
+    empty LINE                              it holds no line: SQL has no place for such a one
     file LINE
 """
 
@@ -28,7 +29,12 @@ def number(kind, key):
     return 0 if kind == "plain" else int(key) % 2**64
 
 
-def recorded(commands, answers):
+def window(line, answer, sql):
+    start, end = map(int, answer.split()[1:])
+    return f"empty {line}" if sql and start >= end else f"window {line} {start} {end}"
+
+
+def recorded(commands, answers, sql):
     """The sample's lines; the answers are those to clauses, openings and questions."""
     answers, clause, kind = iter(answers), None, None
     for command in commands:
@@ -44,7 +50,7 @@ def recorded(commands, answers):
         elif word == "line":
             yield f"line {number(kind, rest)}"
         elif word == "window":
-            yield f"window {rest} {next(answers).split(' ', 1)[1]}"
+            yield window(rest, next(answers), sql)
         else:
             yield command
 
@@ -62,7 +68,7 @@ def main(readback, program, count):
         kept = compare.granted(script, compare.run(readback, script))
         ours = [a for _, a in kept if a.startswith(compare.COMPARED)]
         commands = [c for c, _ in kept]
-        print("\n".join(recorded(commands, judge(commands, ours))))
+        print("\n".join(recorded(commands, judge(commands, ours), domain.sql)))
 
 
 if __name__ == "__main__":

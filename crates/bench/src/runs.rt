@@ -27,7 +27,11 @@ fn walked<V: Transcript<Key = Elapsed>>(view: &V) -> (u64, u64) {
 }
 
 // What a step gives, once its time has been told.
-pub fn timed<T: Drop, F: FnOnce() -> T>(rt: &HostRuntime, name: &str, step: F) -> anyhow::Result<T>
+pub(crate) fn timed<T: Drop, F: FnOnce() -> T>(
+    rt: &HostRuntime,
+    name: &str,
+    step: F,
+) -> anyhow::Result<T>
     requires { F.IsAlwaysCallable step }
 {
     let start = Instant::now(rt)?;

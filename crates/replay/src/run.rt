@@ -46,6 +46,10 @@ fn step<K: Recorded>(
             let window = tracker.window(&roll.view(slots)?, line)?;
             Ok(Some(window == recorded))
         }
+        Step::Empty(line) => {
+            let (start, end) = tracker.window(&roll.view(slots)?, line)?;
+            Ok(Some(start >= end))
+        }
         Step::File(line) => {
             file_roll(tracker, roll, slots, line)?;
             Ok(None)

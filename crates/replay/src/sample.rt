@@ -61,6 +61,8 @@ pub enum Step {
     Line(Option<u64>),
     // window LINE START END
     Window(u32, (u32, u32)),
+    // empty LINE: its window holds no line
+    Empty(u32),
     // file LINE
     File(u32),
 }
@@ -109,6 +111,7 @@ pub fn read_step(text: &[u8]) -> Option<Step> {
             let line = number32(&mut words)?;
             Some(Step::Window(line, (number32(&mut words)?, number32(&mut words)?)))
         }
+        b"empty" => Some(Step::Empty(number32(&mut words)?)),
         b"file" => Some(Step::File(number32(&mut words)?)),
         _ => None,
     }
