@@ -3,6 +3,7 @@ ghost use Rattle.frame.specs.Faults.{answer as read_as, told_clause};
 ghost use Rattle.frame.specs.Frames.{framed};
 ghost use Rattle.frame.specs.Refusals.{refusal_of};
 ghost use Rattle.readback.specs.Lines.{yes_no, printed, frame_line, refusal_line, refused_line, clause_line, window_line, mistake_text, error_line};
+ghost use Rattle.readback.specs.Troubles.{trouble_line};
 
 use crate::command::{Mistake, Trouble};
 use crate::keys::ScriptKey;
@@ -104,6 +105,8 @@ impl fmt::Display for Mistake {
 }
 
 impl fmt::Display for Trouble {
+    ghost output = { λ t. Some (trouble_line t) };
+
     fn fmt<W: fmt::Write>(&self, f: &mut fmt::Formatter<W>) -> fmt::Result {
         match self {
             Trouble::Refused(refusal) => write!(f, "{refusal}"),

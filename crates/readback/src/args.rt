@@ -1,4 +1,4 @@
-ghost use Rattle.std.specs.Prelude.{◌<◌, IfOk, OnOk, OnSome};
+ghost use Rattle.std.specs.Prelude.{◌≡◌, ◌<◌, IfOk, OnOk, OnSome, ◌==◌};
 ghost use Rattle.std.specs.Iterator.{at_most};
 ghost use Rattle.readback.specs.Args.{left};
 
@@ -32,6 +32,12 @@ impl<'a> Iterator for Args<'a> {
 impl<'a> Args<'a> {
     pub fn new(rest: &'a [u8]) -> Args<'a> {
         Args { rest }
+    }
+
+    pub fn is_empty(&self) -> bool
+        ensures { result ≡ (left self.now == 0) }
+    {
+        self.rest.is_empty()
     }
 
     pub fn word(&mut self) -> Result<&'a [u8], Mistake>
@@ -80,7 +86,7 @@ impl<'a> Args<'a> {
 
     // No word may be left.
     pub fn end(&self) -> Result<(), Mistake> {
-        if self.rest.is_empty() {
+        if self.is_empty() {
             Ok(())
         } else {
             Err(Mistake::TooManyWords)

@@ -1,12 +1,14 @@
-ghost use Rattle.std.specs.Prelude.{◌≡◌, IfOk, None, string_bytes};
+ghost use Rattle.std.specs.Prelude.{◌≡◌, ◌⊎◌, IfOk, IfErr, Ok, None, string_bytes};
 ghost use Rattle.std.specs.Option.{option_map};
 ghost use Rattle.frame.specs.Clause.{clause as clause_of_text};
 ghost use Rattle.frame.specs.Frames.{framed, reversed};
 ghost use Rattle.readback.specs.Commands.{command};
-ghost use Rattle.readback.specs.Lines.{clause_line};
+ghost use Rattle.readback.specs.Lines.{clause_line, error_line};
+ghost use Rattle.readback.specs.declared.command.Mistake.TheVariants.{NoMemory};
 ghost use Rattle.readback.specs.Scripts.{current, taken, after, reverse_line, Replies};
+ghost use Rattle.readback.specs.Troubles.{trouble_line};
 
-use crate::answer::{clause_line, error_line, frame_line};
+use crate::answer::{clause_line, error_line, frame_line, refusal_line};
 use crate::command::{Command, Mistake, Trouble, read_command};
 use crate::explains::explain_line;
 use crate::packs::{scan_line, view_line};
@@ -15,8 +17,24 @@ use frame::frame::WindowFrame;
 use std::alloc::{AllocError, Global};
 
 // A command's answer, where trouble is answered too.
-pub fn told(heap: Global, answer: Result<String, Trouble>) -> Result<String, AllocError> {
+pub fn told(heap: Global, answer: Result<String, Trouble>) -> Result<String, AllocError>
+    ensures answer { IfOk answer (λ text. result ≡ Ok text) }
+    ensures trouble { IfErr answer (λ t. IfOk result (λ s. string_bytes s ≡ trouble_line t)) }
+{
     answer.or_else(|trouble| format!(in heap; "{trouble}"))
+}
+
+// The same, but where there is no memory for a refusal that is a mistake like others.
+fn replied(heap: Global, answer: Result<String, Trouble>) -> Result<String, AllocError>
+    ensures answer { IfOk answer (λ text. result ≡ Ok text) }
+    ensures trouble { IfErr answer (λ t. IfOk result (λ s. (string_bytes s ≡ trouble_line t) ⊎ (string_bytes s ≡ error_line NoMemory))) }
+{
+    match answer {
+        Err(Trouble::Refused(refusal)) => {
+            refusal_line(heap, refusal).or_else(|_| error_line(heap, Mistake::NoMemory))
+        }
+        other => told(heap, other),
+    }
 }
 
 // What a script has set up so far.
@@ -48,9 +66,12 @@ impl Session {
             Ok(None) => return Ok(None),
             Ok(Some(Command::Clause(text))) => self.clause(heap, text)?,
             Ok(Some(Command::Reverse)) => self.reverse(heap)?,
-            Ok(Some(Command::Scan(args))) => told(heap, scan_line(heap, args))?,
-            Ok(Some(Command::View(args))) => told(heap, view_line(heap, args))?,
-            Ok(Some(Command::Explain(args))) => told(heap, explain_line(heap, self.frame, args))?,
+            Ok(Some(Command::Scan(args))) => replied(heap, scan_line(heap, args))?,
+            Ok(Some(Command::View(args))) => replied(heap, view_line(heap, args))?,
+            Ok(Some(Command::Explain(args))) => replied(
+                heap,
+                explain_line(heap, self.frame, args),
+            )?,
             Err(mistake) => error_line(heap, mistake)?,
         };
         Ok(Some(answer))

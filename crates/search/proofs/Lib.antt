@@ -1,6 +1,5 @@
 pub mod Facing
 pub mod Seeking
-pub mod Turning
 pub mod Stopping
 pub mod Filtering
 pub mod Sorting

@@ -6,8 +6,11 @@ use Rattle.std.proofs.lemmas.Bool.{cases_Bool, lt-ltb, le-ltb}
 use Rattle.meaning.specs.Counts.{how_many_from, walk}
 use Rattle.meaning.specs.Lines.{Line, ranked}
 use Rattle.meaning.specs.Clause.{same_line}
+use Rattle.meaning.specs.declared.options.SortOptions.{SortOptions}
+use Rattle.meaning.specs.Ranges.{before}
 use Rattle.meaning.specs.Turns.{parts, turn_of, end_of}
-use Rattle.search.specs.Tests.{line_at, alike, parts_at}
+use Rattle.transcript.specs.Lines.{at_line}
+use Rattle.search.specs.Tests.{line_at, alike, parts_at, orderly}
 use Rattle.search.specs.Views.{total_of, turn_at, turn_begins}
 use Rattle.meaning.proofs.Counts.{count_same, count_yes, count_no, found}
 use Rattle.meaning.proofs.Turns.{front_turns, turn_rises}
@@ -117,3 +120,31 @@ module _ {K : Type 0} (rank : K → ℤ) (f : ℕ) (xs : List (Option K)) where
       let ys = ranked rank xs in
       let e = found (λ j. ltb (turn_of None same_line ys j) k) (length ys) (at - f) (front_turns None same_line ys k (length ys)) (omega arith) (λ j l. lt-ltb _ _ (all j l)) (λ l. le-ltb _ _ (stop (omega arith))) in
       omega arith
+
+  -- the turn of a line is that of the one before it, or the next
+  module _ (n : ℕ) (low : f < n) where
+    is_next : turn_at rank f xs n ≡ turn_of None same_line (ranked rank xs) (suc (n - 1 - f))
+    is_next = let s : n - f ≡ suc (n - 1 - f) = omega arith in ap (turn_of None same_line (ranked rank xs)) s
+
+    parts_alike : parts None same_line (ranked rank xs) (n - 1 - f) ≡ not (alike rank f xs n)
+    parts_alike =
+        let a : n ≡ f + 1 + (n - 1 - f) = omega arith in
+        sym (parts_is rank f xs (n - 1 - f)) ∙ ap (parts_at rank f xs) (sym a)
+
+    pub turn_same : alike rank f xs n ≡ true → turn_at rank f xs n ≡ turn_at rank f xs (n - 1)
+    turn_same y = is_next ∙ count_no (parts None same_line (ranked rank xs)) (n - 1 - f) (parts_alike ∙ ap not y)
+
+    pub turn_next : alike rank f xs n ≡ false → turn_at rank f xs n ≡ turn_at rank f xs (n - 1) + 1
+    turn_next y = is_next ∙ count_yes (parts None same_line (ranked rank xs)) (n - 1 - f) (parts_alike ∙ ap not y)
+
+  -- whether a line is the same as the one before it, and in order, by the lines themselves
+  pub alike_by : (n : ℕ) (x y : Option K) → x ≡ at_line f xs (n - 1) → y ≡ at_line f xs n → same_line (option_map rank x) (option_map rank y) ≡ alike rank f xs n
+  alike_by n x y e d = ap (λ (z : Option K). same_line (option_map rank z) (option_map rank y)) e ∙ ap (λ (z : Option K). same_line (option_map rank (at_line f xs (n - 1))) (option_map rank z)) d
+
+  pub orderly_by : (o : SortOptions) (n : ℕ) (x y : Option K) (b : Bool) → x ≡ at_line f xs n → y ≡ at_line f xs (n - 1) → b ≡ before o (option_map rank x) (option_map rank y) → orderly rank f xs o n ≡ not b
+  orderly_by o n x y b h l e = ap not (sym (e ∙ ap (λ (z : Option K). before o (option_map rank z) (option_map rank y)) h ∙ ap (λ (z : Option K). before o (option_map rank (at_line f xs n)) (option_map rank z)) l))
+
+  -- a line is the first of turn k if the one before it stands in an earlier one
+  pub turn_begins_at : (k at t : ℕ) → t ≡ total_of f xs → f < at → at ≤ t → turn_at rank f xs (at - 1) < k → (at < t → k ≤ turn_at rank f xs at) → at ≡ turn_begins rank f xs k
+  turn_begins_at k at t is low high before stop =
+      begins_at k at t is (omega arith) high (λ j h. omega (arith, before, turn_rises None same_line (ranked rank xs) j (at - 1 - f) (omega arith))) stop

@@ -11,7 +11,7 @@ ghost use Rattle.search.specs.Views.{total_of, edge_at, window_at};
 use crate::groups::{turn_number, turn_start};
 use crate::order::{leads, reaches};
 use crate::rows::rows_edge;
-use crate::walks::count_passing;
+use crate::walks::how_many_pass;
 use frame::bound::{WindowFrameBound, WindowFrameUnits};
 use frame::frame::WindowFrame;
 use meaning::options::SortOptions;
@@ -44,7 +44,7 @@ fn order_edge<
         WindowFrameBound::UnboundedFollowing => total,
         _ => {
             let asked = view.line(line);
-            let passing = count_passing(
+            let passing = how_many_pass(
                 first,
                 total,
                 |n| passes(options, bound, view.line(n), asked),

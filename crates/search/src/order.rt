@@ -31,8 +31,11 @@ pub fn is_before<K: KeyKind>(options: SortOptions, x: Option<K>, y: Option<K>) -
 {
     match (x, y) {
         (Some(a), Some(b)) => {
-            let (a, b) = as_rising(options, a, b);
-            a.before(b)
+            if options.descending {
+                b.before(a)
+            } else {
+                a.before(b)
+            }
         }
         (Some(_), None) => !options.unmarked_first,
         (None, Some(_)) => options.unmarked_first,

@@ -17,3 +17,17 @@ pub fn rows_edge(bound: WindowFrameBound, row: u64, total: u32) -> u64
         WindowFrameBound::UnboundedFollowing => u64::from(total),
     }
 }
+
+// Where the ROWS window of a line starts, over `total` lines. No offset wraps.
+pub fn rows_start(bound: WindowFrameBound, line: u32, total: u32) -> u64
+    ensures { result ≡ row_start bound total line }
+{
+    rows_edge(bound, u64::from(line), total)
+}
+
+// Where the ROWS window of a line ends, over `total` lines. No offset wraps.
+pub fn rows_end(bound: WindowFrameBound, line: u32, total: u32) -> u64
+    ensures { result ≡ row_end bound total line }
+{
+    rows_edge(bound, u64::from(line) + 1, total)
+}

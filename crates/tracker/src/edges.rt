@@ -1,19 +1,15 @@
-ghost use Rattle.std.specs.Prelude.{◌≡◌, ℕ, ◌-◌, ◌<◌, Bool};
+ghost use Rattle.std.specs.Prelude.{◌≡◌, ℕ, ◌<◌};
 ghost use Rattle.frame.specs.Frames.{framed};
-ghost use Rattle.meaning.specs.Counts.{walk};
 ghost use Rattle.meaning.specs.Lines.{ranked};
 ghost use Rattle.meaning.specs.Rows.{row_start, row_end};
-ghost use Rattle.search.specs.Tests.{ComputesAgainst};
 ghost use Rattle.search.specs.Views.{total_of, edge_at};
 ghost use Rattle.tracker.specs.Edges.{start_from, end_from};
 
 use crate::standing::Standing;
 use frame::bound::WindowFrameBound;
 use frame::frame::WindowFrame;
-use meaning::options::SortOptions;
-use search::order::{leads, reaches};
-use search::rows::rows_edge;
-use search::sorted::range_edge;
+use search::rows::{rows_end, rows_start};
+use search::sorted::{range_end, range_start};
 use transcript::keys::KeyKind;
 use transcript::view::Transcript;
 
@@ -23,26 +19,24 @@ pub(crate) fn window_by_rows(frame: &WindowFrame, total: u32, line: u32) -> (u32
     ensures start { result.0 ≡ row_start (framed frame.now).start total line }
     ensures end { result.1 ≡ row_end (framed frame.now).end total line }
 {
-    let row = u64::from(line);
-    let start = rows_edge(frame.start_bound(), row, total);
-    let end = rows_edge(frame.end_bound(), row + 1, total);
+    let start = rows_start(frame.start_bound(), line, total);
+    let end = rows_end(frame.end_bound(), line, total);
     (start as u32, end as u32)
 }
 
-// Where a RANGE window starts or ends, walked to from that edge of an earlier window, past the lines
-// that pass a test against `line`.
-fn edge_by_order<
-    K: KeyKind,
-    V: Transcript<Key = K>,
-    F: Fn(SortOptions, WindowFrameBound, Option<K>, Option<K>) -> bool,
->(view: &V, options: SortOptions, bound: WindowFrameBound, line: u32, from: u32, passes: F) -> u32
-    requires { F.IsAlwaysCallable passes }
-    ensures { (p : ℕ → Bool) → ComputesAgainst (F.post passes) (V.Transcript.starts view.now) (V.Transcript.lines view.now) options bound line p from → result ≡ edge_at bound (V.Transcript.starts view.now) (total_of (V.Transcript.starts view.now) (V.Transcript.lines view.now)) (walk p from (total_of (V.Transcript.starts view.now) (V.Transcript.lines view.now) - from)) }
+// Where a RANGE window starts or ends: at what is reckoned, where its bound has a target.
+fn edge_by_order<K: KeyKind, V: Transcript<Key = K>, F: FnOnce() -> u32>(
+    view: &V,
+    bound: WindowFrameBound,
+    reckon: F,
+) -> u32
+    requires { F.IsAlwaysCallable reckon }
+    ensures { (at : ℕ) → ((n : ℕ) → F.post reckon n → n ≡ at) → result ≡ edge_at bound (V.Transcript.starts view.now) (total_of (V.Transcript.starts view.now) (V.Transcript.lines view.now)) at }
 {
     match bound {
         WindowFrameBound::UnboundedPreceding => view.first(),
         WindowFrameBound::UnboundedFollowing => view.total(),
-        _ => range_edge(view, options, bound, line, from, passes),
+        _ => reckon(),
     }
 }
 
@@ -58,7 +52,11 @@ pub(crate) fn window_by_order<K: KeyKind, V: Transcript<Key = K>>(
     let (options, last) = (standing.options, &standing.last);
     let (start, end) = (standing.frame.start_bound(), standing.frame.end_bound());
     (
-        edge_by_order(view, options, start, line, last.start, leads),
-        edge_by_order(view, options, end, line, last.end, reaches),
+        edge_by_order(
+            view,
+            start,
+            || range_start(view, options, start, line, last.start),
+        ),
+        edge_by_order(view, end, || range_end(view, options, end, line, last.end)),
     )
 }

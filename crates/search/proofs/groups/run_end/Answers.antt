@@ -8,6 +8,6 @@ returns g c =
     let v = c.args.view.now in
     let p = alike g.K.KeyKind.rank (g.V.Transcript.starts v) (g.V.Transcript.lines v) in
     record {
-      inside = λ low high. c.first_failing.ensures p (λ n b l h k. search rules) ∙ run_ends_at g.K.KeyKind.rank (g.V.Transcript.starts v) (g.V.Transcript.lines v) c.args.n c.total-total.result c.total-total.ensures low c.if-n-total.false;
+      inside = λ low high. c.first_that_fails.ensures p (λ n b l h k. search rules) ∙ run_ends_at g.K.KeyKind.rank (g.V.Transcript.starts v) (g.V.Transcript.lines v) c.args.n c.total-total.result c.total-total.ensures low c.if-n-total.false;
       past = λ h. absurd (omega arith);
     }

@@ -10,6 +10,6 @@ returns g c =
     let rank = g.K.KeyKind.rank in
     let f = g.V.Transcript.starts v in
     let xs = g.V.Transcript.lines v in
-    c.count_passing.ensures.counted (parts_at rank f xs) (λ n b l h k. search rules)
+    c.how_many_pass.ensures.counted (parts_at rank f xs) (λ n b l h k. search rules)
     ∙ ap (λ (a : ℕ). how_many_from (parts_at rank f xs) (a + 1) (c.args.n + 1 - (a + 1))) c.first.ensures
     ∙ turn_counted rank f xs c.args.n c.requires.low

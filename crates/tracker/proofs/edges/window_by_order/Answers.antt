@@ -1,6 +1,5 @@
 use Rattle.std.proofs.Common.{rules, ◌∙◌, ap}
 use Rattle.meaning.specs.Lines.{ranked}
-use Rattle.search.specs.Tests.{led, reached_at}
 use Rattle.tracker.specs.Edges.{start_from, end_from}
 use Rattle.tracker.proofs.Ordering.{starts_from, ends_from}
 use Rattle.tracker.proofs.edges.window_by_order.Goals as goal
@@ -12,7 +11,7 @@ returns-clause-start g c =
     let xs = g.V.Transcript.lines c.args.view.now in
     let s = c.args.standing.now in
     let b = c.start_bound-start.result in
-    c.edge_by_order.ensures (led rank first xs s.options b c.args.line) (λ n v l h k. search rules)
+    c.edge_by_order.ensures _ (λ n k. search rules)
     ∙ starts_from rank s.options first xs c.args.line s.last.start b
     ∙ ap (start_from s.options first (ranked rank xs) c.args.line s.last.start) c.start_bound-start.ensures
 
@@ -23,6 +22,6 @@ returns-clause-end g c =
     let xs = g.V.Transcript.lines c.args.view.now in
     let s = c.args.standing.now in
     let b = c.end_bound-end.result in
-    c.edge_by_order-2.ensures (reached_at rank first xs s.options b c.args.line) (λ n v l h k. search rules)
+    c.edge_by_order-2.ensures _ (λ n k. search rules)
     ∙ ends_from rank s.options first xs c.args.line s.last.end b
     ∙ ap (end_from s.options first (ranked rank xs) c.args.line s.last.end) c.end_bound-end.ensures
