@@ -5,4 +5,4 @@ use Rattle.search.proofs.sorted.range_start.Goals as goal
 pub returns : goal.returns
 returns g c =
     let v = c.args.view.now in
-    c.range_edge.ensures (led g.K.KeyKind.rank (g.V.Transcript.starts v) (g.V.Transcript.lines v) c.args.options c.args.bound c.args.line) (λ n b l h k. search rules)
+    c.first_that_fails_against.ensures (led g.K.KeyKind.rank (g.V.Transcript.starts v) (g.V.Transcript.lines v) c.args.options c.args.bound c.args.line) (λ n b l h k. search rules)
